@@ -1,4 +1,4 @@
--- Modules that a stack has still ahead, and what is held of them.
+-- Modules that a stack has yet to ask, and what is held of them.
 use Rattle.std.proofs.Common.{◌≡◌, ◌≢◌, ◌<◌, ◌≤◌, ◌+◌, ◌⊎◌, ◌∙◌, ◌&&◌, inl, inr, ℕ, zero, suc, Bool, true, false, cond, eqb, eq-eqb}
 use Rattle.std.proofs.Common.{List, [], ◌∷◌, ◌++◌, Option, Some, None, drop, filter, length, ap, arith, refl, sym}
 use Rattle.std.specs.List.{list_any, range_with_len}
@@ -54,7 +54,7 @@ asks-later : (next : Option ℕ) (i number : ℕ) → next ≡ Some i → i ≤ 
 asks-later next i number e low = ap (λ (o : Option ℕ). may_ask o number) e ∙ le-leb i number low
 
 module _ (names : List ℕ) (count modules : ℕ) where
-  -- a module of the old stack, or one of the new one, that is still ahead
+  -- a module of the old stack, or one of the new stack, that is yet to be asked
   abbrev pub IsOldAhead : ℕ → Option ℕ → Type 0
   IsOldAhead name old = (name ≤ count) × (may_ask old name ≡ true)
 
@@ -91,7 +91,7 @@ module _ (names : List ℕ) (count modules : ℕ) where
       (any-in (λ j. eqb (name_of names j) name && may_ask new j) 1 modules j low (omega (arith, high))
       (and_from (eqb (name_of names j) name) (may_ask new j) (eq-eqb (name_of names j) name is) ahead))
 
-  -- the last new module with a name is ahead, if any is
+  -- if any new module with a name is yet to be asked, the last one is
   pub last-ahead : (last : List ℕ) (name : ℕ) (new : Option ℕ) → length names ≡ modules + 1 → AreLast names last → IsNewAhead name new →
       may_ask new (name_of last name) ≡ true
   unfolding AreLast
@@ -115,7 +115,7 @@ module _ (names : List ℕ) (count modules : ℕ) where
       let within = there.0 in
       new-ahead name old new (name_of last name) (omega (arith, first, least)) (omega (arith, within, size)) there.1 e
 
-  -- WHAT IS STILL AHEAD AFTER A STEP
+  -- WHAT IS YET TO BE ASKED AFTER A STEP
 
   one-later : (before after : Option ℕ) (i number : ℕ) → before ≡ Some i → after ≡ Some (i + 1) → number ≢ i → may_ask before number ≡ true →
       may_ask after number ≡ true
@@ -150,7 +150,7 @@ module _ (names : List ℕ) (count modules : ℕ) where
             (new-on turn old_before new_before old new n.number is stays passes (λ same. other (sym n.name_is ∙ same)) n.ahead)
       ]
 
-  -- what is wanted is another name's, and ahead
+  -- a held answer of another name that is yet to be asked is wanted
   pub wanted : (answered : ℕ) (old new : Option ℕ) (name : ℕ) → name ≢ answered → is_ahead names count modules name old new ≡ true →
       is_wanted names count modules answered old new name ≡ true
   wanted answered old new name other e =
@@ -159,7 +159,7 @@ module _ (names : List ℕ) (count modules : ℕ) where
 
 -- LISTS
 
--- a test that all pass from an index on leaves the end as it is
+-- a test that all pass leaves the list as it is
 pub all-kept : (test : HeldAnswer → Bool) (xs : List HeldAnswer) → ((i : ℕ) (h : HeldAnswer) → slice_get xs i ≡ Some h → test h ≡ true) → filter test xs ≡ xs
 all-kept test [] all = refl
 all-kept test (x ∷ xs) all =

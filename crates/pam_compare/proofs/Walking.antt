@@ -67,7 +67,7 @@ stays-there (Old i) left right code = refl
 stays-there (New j) left right code = refl
 stays-there (Both i j) left right code = tt
 
--- WHAT IS HELD IS AHEAD
+-- WHAT IS HELD IS YET TO BE ASKED
 
 some-is : (g h : HeldAnswer) → Some g ≡ Some h → g ≡ h
 some-is g h e = cc

@@ -1,4 +1,4 @@
--- Answers of two stacks that agree: modules that are one answer alike.
+-- Answers of two stacks that agree: tied modules answer alike.
 use Rattle.std.specs.Prelude.{◌≡◌, ℕ, ◌<◌, ◌≤◌, true, List, Option, Some}
 use Rattle.pam_dispatch.specs.Runs.{Assignment}
 use Rattle.pam_paths.specs.Listing.{Allowance}
@@ -12,7 +12,7 @@ HaveCommonCode old new i j = (code : ℕ) × (code < 31) × (old i code ≡ true
 abbrev pub AreTied : Allowance → Allowance → ℕ → List (Option ℕ) → ℕ → ℕ → Type 0
 AreTied old new count partners i j = (partner_of partners j ≡ Some i) × (0 < i) × (i ≤ count) × HaveCommonCode old new i j
 
--- two assignments agree: modules that are tied answer alike. The stacks have `count` and `modules` modules
+-- two assignments agree: tied modules answer alike. The old stack has `count` modules, and the new one `modules`
 unfoldable pub Agree : Allowance → Allowance → ℕ → ℕ → List (Option ℕ) → Assignment → Assignment → Type 0
 Agree old new count modules partners a b =
     (i j : ℕ) → 0 < j → j ≤ modules → AreTied old new count partners i j → a i ≡ b j

@@ -21,14 +21,14 @@ abbrev pub decision_in : Runs → Assignment → ℕ
 decision_in runs a = decision_of (final_state runs a)
 
 module _ (old_allows new_allows : Allowance) (old new : List FlatItem) (partners : List (Option ℕ)) where
-  -- NO ANSWERS make this change: of all that are allowed in the old and in the new stack, and in which tied modules answer alike
+  -- NO ANSWERS MAKE THIS CHANGE, as long as they are allowed in the two stacks and tied modules answer alike
   unfoldable pub NeverChanges : Change → Type 0
   NeverChanges change =
       (a b : Assignment) → IsAllowed old_allows (modules_of old) a → IsAllowed new_allows (modules_of new) b →
       Agree old_allows new_allows (modules_of old) (modules_of new) partners a b →
       change_of (decision_in (runs_of old) a) (decision_in (runs_of new) b) ≢ Some change
 
-  -- THESE ANSWERS MAKE IT: they are allowed, tied modules answer alike, and the stacks decide so
+  -- THESE ANSWERS MAKE IT: they are allowed, tied modules answer alike, and the decisions of the stacks differ in this way
   pub record IsWitness (change : Change) (w : Witness) : Type 0 where
     pub old_count : length w.old_codes.items ≡ modules_of old
     pub new_count : length w.new_codes.items ≡ modules_of new
@@ -39,7 +39,7 @@ module _ (old_allows new_allows : Allowance) (old new : List FlatItem) (partners
     pub new_decision : w.new ≡ decision_in (runs_of new) (answers_of w.new_codes.items)
     pub change_is : change_of w.old w.new ≡ Some change
 
-  -- there are answers that make a change, or none
+  -- a change is shown by answers that make it; where there is no witness, no answers make it
   abbrev pub IsShown : Change → Option Witness → Type 0
   IsShown change None = NeverChanges change
   IsShown change (Some w) = IsWitness change w
@@ -49,7 +49,7 @@ module _ (old_allows new_allows : Allowance) (old new : List FlatItem) (partners
     pub refuses : IsShown Refuses changes.refuses
     pub tells : IsShown Tells changes.tells
 
-  -- what is said of each change; and it is not said only where there are too many situations
+  -- what a comparison says is true of each change; it is `NotKnown` only where there are too many situations
   abbrev pub IsComparison : Comparison → Type 0
   IsComparison (Known changes) = AreChanges changes
   IsComparison NotKnown = HasMoreSituations old_allows new_allows old new partners MAX_SITUATIONS

@@ -9,14 +9,14 @@ use Rattle.pam_compare.specs.declared.held.HeldAnswer.{HeldAnswer}
 use Rattle.pam_compare.specs.Situations.{HasMoreSituations}
 use Rattle.pam_compare.specs.Walks.{IsAfter, Order}
 
--- two stacks that ask no module have no more than one situation
+-- two stacks that ask no module have at most one situation
 abbrev pub OneSituation : Type 0
 OneSituation =
     (old_allows new_allows : Allowance) (old new : List FlatItem) (partners : List (Option ℕ)) (limit : ℕ) →
     asked_module (runs_of old) ≡ None → asked_module (runs_of new) ≡ None →
     HasMoreSituations old_allows new_allows old new partners limit → limit < 1
 
--- wherever the walk is, it holds one answer of each name at most
+-- wherever the walk is, it holds at most one answer of each name
 abbrev pub HeldOnce : Type 0
 HeldOnce =
     (old new : List FlatItem) (names : List ℕ) (possible : List (List ℕ)) (old_first : Order) (old_answers new_answers : Assignment)

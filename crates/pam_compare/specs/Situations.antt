@@ -1,4 +1,4 @@
--- The situations that two stacks can be in, where their runs are made beside each other: pam.conf(5).
+-- The situations that two stacks can be in while they run side by side: pam.conf(5).
 use Rattle.std.specs.Prelude.{◌≡◌, ◌≢◌, ◌<◌, ◌≤◌, ◌+◌, ℕ, zero, suc, List, [], ◌∷◌, Option, Some, drop, length, slice_get}
 use Rattle.std.specs.List.{AllPairs}
 use Rattle.pam_dispatch.specs.declared.flat_item.FlatItem.{FlatItem}
@@ -19,17 +19,17 @@ after_steps zero runs a = runs
 after_steps (suc n) (ends s) a = ends s
 after_steps (suc n) (asks ask next) a = after_steps n (next (outcome_of ask (a ask.module_number))) a
 
--- a run comes to this rest
+-- a run comes to a point at which this is left of it
 abbrev pub Comes : Runs → Assignment → Runs → Type 0
 Comes runs a rest = (n : ℕ) × (rest ≡ after_steps n runs a)
 
--- where both stacks are, and the answers that one has had from modules which the other has still ahead
+-- where both stacks are, and the answers of modules that one stack has asked and the other has yet to ask
 pub record Standing : Type 0 where
   pub old : KeyValue
   pub new : KeyValue
   pub held : List HeldAnswer
 
--- a key that a place has: that of a module, with no more entry states than lists are open; or the one of the end
+-- a key that a place can have: at a module, with at most as many entry states as lists are open; or the key of the end
 unfoldable pub IsKeyAt : List FlatItem → List FlatItem → KeyValue → Type 0
 IsKeyAt program [] key = (key.position ≡ length program) × (key.depth ≡ 0) × (key.entered ≡ [])
 IsKeyAt program (Module level number control after ∷ rest) key = (key.depth ≡ level + 1) × (length key.entered ≤ key.depth)
@@ -54,8 +54,9 @@ module _ (old_allows new_allows : Allowance) (old new : List FlatItem) (partners
     pub answers : List HeldAnswer
     pub after : IsAfter old new names possible old_first old_answers new_answers answers (rest_at old s.old) (rest_at new s.new) s.held
 
-  -- THERE ARE MORE SITUATIONS THAN A LIMIT: more different ones that the walk of both stacks reaches, in one order of their modules,
-  -- each by answers of other classes. Tied modules have one name, and each name has the codes that are allowed to all its modules
+  -- THERE ARE MORE SITUATIONS THAN A LIMIT: with one order of the modules, the walk of both stacks reaches more situations than that.
+  -- No two of them are equal, and no two are reached by answers of the same classes. Tied modules have one name, and the codes that are
+  -- possible for a name are those that are allowed to all its modules
   pub record HasMoreSituations (limit : ℕ) : Type 0 where
     pub names : List ℕ
     pub possible : List (List ℕ)

@@ -1,4 +1,4 @@
-//! Answers that one stack has had from modules which the other stack has still ahead.
+//! Answers of modules that one stack has asked and the other has yet to ask.
 
 ghost use Rattle.std.specs.Prelude.{◌≡◌, ◌≢◌, ◌⊎◌, ◌+◌, ◌<◌, ◌≤◌, ◌&&◌, ◌∷◌, ◌++◌, [], ℕ};
 ghost use Rattle.std.specs.Prelude.{false, true, if◌then◌else◌, IfOk, IsTrue, OnOk, Option, Some, length, slice_get};
@@ -36,7 +36,7 @@ pub(crate) struct HeldAfter {
     pub(crate) start: usize,
 }
 
-/// The least of the codes, by which sets that share none are told apart; the number of all codes if there is none.
+/// The least of the codes, which distinguishes sets that share none; the number of all codes if there is none.
 fn least_number(codes: CodeSet) -> u8
     ensures { result ≡ least_of_bits (bits_of_codes codes) }
 {
@@ -61,7 +61,7 @@ impl Hash for HeldAnswer {
     }
 }
 
-/// Of these codes, those that an answer leaves to the module with this name.
+/// Of these codes, those that a held answer does not rule out for the module with this name.
 fn codes_left(answer: HeldAnswer, name: usize, codes: CodeSet) -> CodeSet
     ensures kept { (c : ℕ) → c < 31 → IsTrue (is_in c codes) → (answer.name ≡ name → IsTrue (is_in c answer.codes)) → IsTrue (is_in c result) }
     ensures within { (c : ℕ) → IsTrue (is_in c result) → IsTrue (is_in c codes) }
@@ -73,7 +73,7 @@ fn codes_left(answer: HeldAnswer, name: usize, codes: CodeSet) -> CodeSet
     codes.intersection(answer.codes)
 }
 
-/// Of these codes, those that what is held leaves to the module with this name.
+/// Of these codes, those that what is held does not rule out for the module with this name.
 pub(crate) fn held_codes(held: &[HeldAnswer], name: usize, codes: CodeSet) -> CodeSet
     ensures kept { (a : Assignment) → a name < 31 → Holds a held.now → IsTrue (is_in (a name) codes) → IsTrue (is_in (a name) result) }
     ensures within { (c : ℕ) → IsTrue (is_in c result) → IsTrue (is_in c codes) }
@@ -87,7 +87,7 @@ pub(crate) fn held_codes(held: &[HeldAnswer], name: usize, codes: CodeSet) -> Co
     left
 }
 
-/// Whether a stack that asks the module `next` can still ask the module with this number.
+/// Whether a stack whose next module is `next` can still ask the module with this number.
 fn may_ask(next: Option<usize>, number: usize) -> bool
     ensures past { result ≡ false → (i : ℕ) → next ≡ Some i → number < i }
     ensures exact { result ≡ may_ask next number }
@@ -98,7 +98,7 @@ fn may_ask(next: Option<usize>, number: usize) -> bool
     }
 }
 
-/// Whether one of the stacks, which ask these modules next, has the module with this name still ahead.
+/// Whether one of the stacks has yet to ask a module with this name, where they ask the modules `old` and `new` next.
 fn is_ahead(naming: &Naming, name: usize, old: Option<usize>, new: Option<usize>) -> bool
     ensures past { (modules : ℕ) → length naming.now.names.items ≡ modules + 1 → AreLast naming.now.names.items naming.now.last.items
         → result ≡ false → IsPast naming.now.names.items naming.now.old_modules modules name old new }
@@ -120,8 +120,8 @@ fn tells(naming: &Naming, name: usize, codes: CodeSet) -> bool
     !possible.without(codes).is_empty()
 }
 
-/// Whether an answer of these codes is held, where the stacks then ask these modules next. One that tells nothing is not, so that
-/// what is held stays short, and situations that differ in nothing else are one.
+/// Whether an answer of these codes is to be held, where the stacks then ask the modules `old` and `new` next. One that tells nothing
+/// is not held: so what is held stays short, and situations that differ in nothing else are the same.
 fn is_needed(
     naming: &Naming,
     name: usize,
@@ -192,7 +192,7 @@ pub(crate) struct Step {
     pub(crate) new: Option<usize>,
 }
 
-/// Whether a stack asks the module after this one next.
+/// Whether the module that a stack asks next is the one after this one.
 fn goes_on(number: usize, next: Option<usize>) -> bool
     ensures { IsTrue result → next ≡ Some (number + 1) }
 {
@@ -202,8 +202,8 @@ fn goes_on(number: usize, next: Option<usize>) -> bool
     }
 }
 
-/// Whether the stacks have passed only the modules that were asked. All that was held was ahead, and then all of it still is, but for
-/// the answer of the module that was asked.
+/// Whether the stacks have passed no modules but those that were asked. If so, each module whose answer was held is yet to be asked as
+/// before, except the one that was asked.
 fn passes_no_other(step: Step) -> bool
     ensures { IsTrue result → PassesNoOther step.turn step.old step.new }
 {
@@ -229,7 +229,7 @@ fn without_name(held: &[HeldAnswer], name: usize) -> usize
     0
 }
 
-/// The index from which on all these answers are still held after that of the module with this name.
+/// The index from which on all these answers are still held after an answer of the module with this name.
 fn kept_from(naming: &Naming, held: &[HeldAnswer], name: usize, step: Step) -> usize
     ensures within { result ≤ length held.now }
     ensures wanted { (modules : ℕ) (old_before new_before : Option ℕ) → AreTables naming.now modules → IsNumber step.new
@@ -250,7 +250,8 @@ fn kept_from(naming: &Naming, held: &[HeldAnswer], name: usize, step: Step) -> u
     0
 }
 
-/// What is held after a step with an answer of this class. The end that stays as it is, mostly all of it, is not copied.
+/// What is held after a step with an answer of this class. The part at the end of the list that stays the same,
+/// mostly all of it, is not copied.
 pub(crate) fn held_after(
     alloc: Global,
     naming: &Naming,

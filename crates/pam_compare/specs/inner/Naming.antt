@@ -6,15 +6,15 @@ use Rattle.pam_dispatch.specs.Runs.{Assignment}
 use Rattle.pam_paths.specs.Listing.{Allowance}
 use Rattle.pam_compare.specs.Names.{name_of}
 
--- of each name, a number that is not below those of the new modules that have it
+-- for each name, a number that is at least that of each new module with this name
 unfoldable pub AreLast : List ℕ → List ℕ → Type 0
 AreLast names last = (k : ℕ) → 0 < k → k < length names → k ≤ name_of last (name_of names k)
 
--- a number that is given for a name, but for 0, is that of a new module that has it
+-- unless it is 0, the number that is given for a name is that of a new module with this name
 unfoldable pub AreFound : List ℕ → List ℕ → Type 0
 AreFound names last = (name : ℕ) → 0 < name_of last name → (name_of last name < length names) × (name_of names (name_of last name) ≡ name)
 
--- each name answers its code in a list
+-- the assignment in which each name answers the code that a list has for it
 abbrev pub by_code : List ℕ → Assignment
 by_code codes name = slice_index_or codes name 0
 
@@ -22,7 +22,7 @@ by_code codes name = slice_index_or codes name 0
 unfoldable pub IsPossible : List (List ℕ) → Assignment → Type 0
 IsPossible possible a = (name : ℕ) → (a name < 31) × IsTrue (is_in (a name) (slice_index_or possible name all_codes))
 
--- what the knowledge of both stacks allows, for names
+-- an assignment for names that the knowledge of both stacks allows
 pub record IsKnown (old_allows new_allows : Allowance) (count modules : ℕ) (names : List ℕ) (a : Assignment) : Type 0 where
   pub codes : (name : ℕ) → a name < 31
   pub old : (i : ℕ) → 0 < i → i ≤ count → old_allows i (a i) ≡ true

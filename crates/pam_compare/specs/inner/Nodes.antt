@@ -1,5 +1,5 @@
--- For private contracts and proofs alone: the nodes of a comparison, which are situations that two stacks can be in, one after the
--- same answers as the other.
+-- For private contracts and proofs alone: the nodes of a comparison, which are situations that two stacks can be in after the same
+-- answers.
 use Rattle.std.specs.Prelude.{◌≡◌, ◌⊎◌, ◌<◌, ◌++◌, ◌∷◌, [], ℕ, List, Option, None, Some, IsSome, length, slice_get}
 use Rattle.pam_dispatch.specs.declared.flat_item.FlatItem.{FlatItem}
 use Rattle.pam_dispatch.specs.declared.place.Place.{Place}
@@ -24,7 +24,7 @@ use Rattle.pam_compare.specs.inner.Naming.{IsPossible}
 use Rattle.pam_compare.specs.Walks.{turn_name, old_after, new_after}
 use Rattle.pam_compare.specs.inner.Turn.{IsTurn}
 
--- a place in a table, of this program, with its key
+-- place k of a table is a place of this program, and its key is at the same index
 pub record IsStored (program : List FlatItem) (keys : List KeyValue) (k : ℕ) (p : Place) : Type 0 where
   pub place : IsPlaceOf program p
   pub key : slice_get keys k ≡ Some (key_of p)
@@ -34,14 +34,14 @@ pub record ArePlaces (program : List FlatItem) (places : List Place) (keys : Lis
   pub count : length places ≡ length keys
   pub stored : (k : ℕ) (p : Place) → slice_get places k ≡ Some p → IsStored program keys k p
 
--- of the places in a table, those at the end of a run, each of which is in another state
+-- `ends` lists the places of a table that are at the end of a run, and no two of them are in the same state
 pub record AreEndsOf (program : List FlatItem) (places : List Place) (ends : List ℕ) : Type 0 where
   pub sound : (m k : ℕ) → slice_get ends m ≡ Some k → (p : Place) × (slice_get places k ≡ Some p) × (asked_module (rest_of program p) ≡ None)
   pub listed : (k : ℕ) (p : Place) → slice_get places k ≡ Some p → asked_module (rest_of program p) ≡ None → (m : ℕ) × (slice_get ends m ≡ Some k)
   pub single : (j k : ℕ) (p q : Place) → slice_get places j ≡ Some p → slice_get places k ≡ Some q → asked_module (rest_of program p) ≡ None →
       rest_of program p ≡ rest_of program q → j ≡ k
 
--- the places of two programs, and situations at them
+-- the nodes consist of places of the two programs, and of situations at these places
 pub record AreNodes (old new : List FlatItem) (nodes : Nodes) : Type 0 where
   pub of_old : ArePlaces old nodes.old_places.places.items nodes.old_places.keys
   pub of_new : ArePlaces new nodes.new_places.places.items nodes.new_places.keys
@@ -53,7 +53,7 @@ pub record AreNodes (old new : List FlatItem) (nodes : Nodes) : Type 0 where
   pub listed : (k : ℕ) (s : Situation) → slice_get nodes.situations.keys k ≡ Some s →
       (held : List HeldAnswer) × IsListed nodes.held_lists.links.keys s.held held
 
--- what is in a list stays where it is
+-- what is in the list `before` is at the same index in `after`
 unfoldable pub Keeps : {X : Type 0} → List X → List X → Type 0
 Keeps {X} before after = (k : ℕ) (x : X) → slice_get before k ≡ Some x → slice_get after k ≡ Some x
 
@@ -73,13 +73,13 @@ pub record Stop : Type 0 where
 abbrev pub stop_of : Node → Stop
 stop_of node = record { old = node.old; new = node.new; held = node.held.items }
 
--- a situation is that of a stop, whose places and held answers it names
+-- a situation stands for a stop: it has the numbers of the stop's places and of its held list
 pub record IsAt (nodes : Nodes) (s : Situation) (n : Stop) : Type 0 where
   pub old : slice_get nodes.old_places.places.items s.old ≡ Some n.old
   pub new : slice_get nodes.new_places.places.items s.new ≡ Some n.new
   pub held : IsListed nodes.held_lists.links.keys s.held n.held
 
--- a situation is where these runs are left, with these answers held
+-- a situation in which `left` and `right` are left of the runs, and `held` is held
 pub record IsLeftAt (old new : List FlatItem) (nodes : Nodes) (left right : Runs) (held : List HeldAnswer) (s : Situation) : Type 0 where
   pub node : Stop
   pub is_at : IsAt nodes s node
@@ -87,16 +87,16 @@ pub record IsLeftAt (old new : List FlatItem) (nodes : Nodes) (left right : Runs
   pub right_is : rest_of new node.new ≡ right
   pub held_is : node.held ≡ held
 
--- the number of the list that is held at a situation, if there is one
+-- the number of the list that is held at a situation; 0 if there is no situation
 abbrev pub list_of : Option Situation → ℕ
 list_of None = 0
 list_of (Some s) = s.held
 
--- these answers are held at the situation with an index
+-- these answers are held at the situation with this index
 abbrev pub AreHeldAt : Nodes → ℕ → List HeldAnswer → Type 0
 AreHeldAt nodes index held = IsListed nodes.held_lists.links.keys (list_of (slice_get nodes.situations.keys index)) held
 
--- node k is a new one, to which the last way leads
+-- node k is the new node, and the last way leads to it
 pub record IsNew (old new : List FlatItem) (before after : Nodes) (left right : Runs) (held : List HeldAnswer) (way : Way) (k : ℕ)
     (s : Situation) : Type 0 where
   pub node : Stop
@@ -107,13 +107,13 @@ pub record IsNew (old new : List FlatItem) (before after : Nodes) (left right : 
   pub index : k ≡ length before.situations.keys
   pub ways : after.ways.items ≡ before.ways.items ++ way ∷ []
 
--- each node was there, or is the new one
+-- each node was there before, or is the new one
 abbrev pub AreAdded : List FlatItem → List FlatItem → Nodes → Nodes → Runs → Runs → List HeldAnswer → Way → Type 0
 AreAdded old new before after left right held way =
     (k : ℕ) (s : Situation) → slice_get after.situations.keys k ≡ Some s →
     (slice_get before.situations.keys k ≡ Some s) ⊎ IsNew old new before after left right held way k s
 
--- one of the situations is where the runs are that are left, under an assignment
+-- in one of the situations `left` and `right` are left of the runs, and the assignment agrees with what is held there
 pub record IsMet (old new : List FlatItem) (nodes : Nodes) (a : Assignment) (left right : Runs) : Type 0 where
   pub index : ℕ
   pub situation : Situation
@@ -124,14 +124,14 @@ pub record IsMet (old new : List FlatItem) (nodes : Nodes) (a : Assignment) (lef
   pub right_is : rest_of new node.new ≡ right
   pub holds : Holds a node.held
 
--- this change has been found, or there is none
+-- if there is a change, it has been found
 abbrev pub IsNoted : Found → Option Change → Type 0
 IsNoted found None = Unit {0}
 IsNoted found (Some Admits) = IsSome found.admits
 IsNoted found (Some Refuses) = IsSome found.refuses
 IsNoted found (Some Tells) = IsSome found.tells
 
--- the change of the decisions from here on has been found
+-- if the decisions of these runs make a change, it has been found
 abbrev pub IsDecided : Found → List ℕ → Assignment → Runs → Runs → Type 0
 IsDecided found names a left right = IsNoted found (change_of (decision_in left a) (decision_in right (by_name names a)))
 
@@ -141,7 +141,7 @@ IsFollowed old new names nodes a left right =
     (turn : Turn) × IsTurn names (asked_module left) (asked_module right) turn
     × IsMet old new nodes a (old_after turn left (a (turn_name names turn))) (new_after turn right (a (turn_name names turn)))
 
--- one or the other, whatever the modules answer
+-- from this stop on, whatever the modules answer: the change has been found, or the next answer leads to one of the situations
 unfoldable pub IsDone : List FlatItem → List FlatItem → List ℕ → List (List ℕ) → Nodes → Found → Stop → Type 0
 IsDone old new names possible nodes found n =
     (a : Assignment) → IsPossible possible a → Holds a n.held →
@@ -157,6 +157,6 @@ pub record IsVisited (old new : List FlatItem) (names : List ℕ) (possible : Li
 abbrev pub IsBegun : List FlatItem → List FlatItem → Nodes → Type 0
 IsBegun old new nodes = (a : Assignment) → ((name : ℕ) → a name < 31) → IsMet old new nodes a (runs_of old) (runs_of new)
 
--- the change that the stacks make has been found, whatever the modules answer
+-- whatever the modules answer, the change that the stacks make has been found
 unfoldable pub IsSearched : List FlatItem → List FlatItem → List ℕ → List (List ℕ) → Found → Type 0
 IsSearched old new names possible found = (a : Assignment) → IsPossible possible a → IsDecided found names a (runs_of old) (runs_of new)

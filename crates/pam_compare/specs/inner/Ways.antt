@@ -27,7 +27,7 @@ use Rattle.pam_compare.specs.inner.Turn.{first_of}
 use Rattle.pam_compare.specs.Situations.{Comes}
 use Rattle.pam_compare.specs.inner.Trails.{Follows, IsCovered, IsTrail, answers_on}
 
--- the tables of a naming go with two programs
+-- the tables of a naming fit two programs
 pub record IsNaming (old new : List FlatItem) (naming : Naming) : Type 0 where
   pub names : length naming.names.items ≡ modules_of new + 1
   pub last : AreLast naming.names.items naming.last.items
@@ -50,7 +50,7 @@ pub record IsFit (possible : List (List ℕ)) (w : Way) : Type 0 where
   pub member : IsTrue (is_in w.code (slice_index_or possible w.name all_codes))
   pub within : w.name < length possible
 
--- the steps to node k lead the runs to these rests, with these answers held
+-- the steps to node k leave `left` and `right` of the runs, and `held` is held after them
 pub record IsWayTo (old new : List FlatItem) (names : List ℕ) (possible : List (List ℕ)) (ways : List Way) (k : ℕ) (left right : Runs)
     (held : List HeldAnswer) : Type 0 where
   pub trail : List Way
@@ -66,22 +66,22 @@ pub record IsWayTo (old new : List FlatItem) (names : List ℕ) (possible : List
   pub new_comes : (a : Assignment) → Follows a trail → Comes (runs_of new) (by_name names a) right
   pub holds : (a : Assignment) → Follows a trail → Holds a held
 
--- the same of a situation that is among the nodes
+-- the same for node k, whose situation is `s`
 pub record IsReachedAt (old new : List FlatItem) (names : List ℕ) (possible : List (List ℕ)) (nodes : Nodes) (k : ℕ) (s : Situation) : Type 0 where
   pub node : Stop
   pub is_at : IsAt nodes s node
   pub way : IsWayTo old new names possible nodes.ways.items k (rest_of old node.old) (rest_of new node.new) node.held
 
--- each node has its way
+-- there are such steps to each node
 pub record AreReached (old new : List FlatItem) (names : List ℕ) (possible : List (List ℕ)) (nodes : Nodes) : Type 0 where
   pub count : length nodes.ways.items ≡ length nodes.situations.keys
   pub reached : (k : ℕ) (s : Situation) → slice_get nodes.situations.keys k ≡ Some s → IsReachedAt old new names possible nodes k s
 
--- the answer of a step
+-- the answer that may be held after a step
 abbrev pub step_of : Way → HeldAnswer
 step_of w = record { name = w.name; codes = w.class }
 
--- no two steps from one node have one class; the way to the first node has no step
+-- no two steps from the same node have the same class. What is at index 0 is no step, since none leads to the first node
 unfoldable pub AreUnique : List Way → Type 0
 AreUnique ways =
     (j k : ℕ) (v w : Way) → 0 < j → 0 < k → slice_get ways j ≡ Some v → slice_get ways k ≡ Some w → v.parent ≡ w.parent → v.class ≡ w.class → j ≡ k
@@ -90,7 +90,7 @@ AreUnique ways =
 unfoldable pub IsFresh : List Way → ℕ → List ℕ → Type 0
 IsFresh ways parent class = (j : ℕ) (w : Way) → 0 < j → slice_get ways j ≡ Some w → w.parent ≡ parent → w.class ≡ class → ⊥
 
--- all steps are from nodes before this one
+-- each step is from a node before this one
 unfoldable pub AreBelow : List Way → ℕ → Type 0
 AreBelow ways index = (j : ℕ) (w : Way) → 0 < j → slice_get ways j ≡ Some w → w.parent < index
 
@@ -98,12 +98,12 @@ pub record AreOrdered (ways : List Way) (index : ℕ) : Type 0 where
   pub unique : AreUnique ways
   pub below : AreBelow ways index
 
--- the steps are these, or one more
+-- the steps are the same as before, or there is one more
 abbrev pub HasOneMore : List Way → List Way → Way → Type 0
 HasOneMore before after way = (after ≡ before) ⊎ (after ≡ before ++ way ∷ [])
 
--- the steps to node k are those of the walk that leads to these rests, with these answers held, all of them of modules that a stack has
--- still ahead
+-- the steps to node k are those of a walk that leaves `left` and `right` of the runs, with `held` held. All that is held is of
+-- modules that a stack has yet to ask
 pub record IsWalkTo (old new : List FlatItem) (naming : Naming) (ways : List Way) (k : ℕ) (left right : Runs) (held : List HeldAnswer) : Type 0 where
   pub trail : List Way
   pub is_trail : IsTrail ways k trail
@@ -111,23 +111,23 @@ pub record IsWalkTo (old new : List FlatItem) (naming : Naming) (ways : List Way
       IsAfter old new naming.names.items naming.possible.items (first_of naming.ranks) a (by_name naming.names.items a) (map step_of trail) left right held
   pub ahead : AreAhead naming.names.items (modules_of old) (modules_of new) held (asked_module left) (asked_module right)
 
--- the same of a situation that is among the nodes
+-- the same for node k, whose situation is `s`
 pub record IsWalkedAt (old new : List FlatItem) (naming : Naming) (nodes : Nodes) (k : ℕ) (s : Situation) : Type 0 where
   pub node : Stop
   pub is_at : IsAt nodes s node
   pub walk : IsWalkTo old new naming nodes.ways.items k (rest_of old node.old) (rest_of new node.new) node.held
 
--- each node has its walk
+-- there is such a walk to each node
 unfoldable pub AreWalked : List FlatItem → List FlatItem → Naming → Nodes → Type 0
 AreWalked old new naming nodes = (k : ℕ) (s : Situation) → slice_get nodes.situations.keys k ≡ Some s → IsWalkedAt old new naming nodes k s
 
--- the node that is found for a change
+-- the node that was found for a change
 abbrev pub found_at : Found → Change → Option ℕ
 found_at found Admits = found.admits
 found_at found Refuses = found.refuses
 found_at found Tells = found.tells
 
--- both runs end at node k, with this change
+-- both runs end at node k, and their decisions make this change
 pub record IsEnd (old new : List FlatItem) (nodes : Nodes) (k : ℕ) (change : Change) : Type 0 where
   pub situation : Situation
   pub node : Stop
