@@ -6,13 +6,12 @@ use Rattle.std.specs.Option.{option_and_then, option_map_or}
 use Rattle.std.specs.Str.{bytes_eq}
 use Rattle.std.proofs.lemmas.Bool.{cond_both, or_left}
 use Rattle.std.proofs.lemmas.List.Elements.{All-cons, All-filter, All-head, All-nil}
-use Rattle.pam_codes.specs.Code.{all_codes}
+use Rattle.pam_codes.specs.Code.{all_codes, module_unknown}
 use Rattle.pam_codes.specs.Set.{codes_where, is_in}
 use Rattle.pam_codes.proofs.CodeSets.{all_codes-within}
 use Rattle.pam_conf.specs.Stack.{Items, ModuleText, module_at}
 use Rattle.pam_conf.specs.declared.rule.Kind.{Kind}
 use Rattle.pam_facts.specs.Answers.{is_there}
-use Rattle.pam_facts.specs.Facts.{module_unknown}
 use Rattle.pam_facts.specs.Missing.{if_missing, missing_at, where_there}
 use Rattle.pam_tables.specs.Error.{onto_lines, read_lines}
 use Rattle.pam_tables.specs.Groups.{Group}
