@@ -55,7 +55,8 @@ follow-requires-clause-step c =
     let member = c.in-Some.ensures.member in
     let test : ℕ → Bool = λ x. is_in x c.class_of.result && is_in x c.loop-code.left in
     let name = c.turn_name-name.ensures in
-    let listed : (d : ℕ) → is_in d c.intersection-class.result ≡ true → is_in d (codes_where test) ≡ true = λ d h. sym (ap (is_in d) c.intersection-class.ensures) ∙ h in
+    let listed : (d : ℕ) → is_in d c.intersection-class.result ≡ true → is_in d (codes_where test) ≡ true =
+    λ d h. sym (ap (is_in d) c.intersection-class.ensures) ∙ h in
     let parts : (d : ℕ) → is_in d c.intersection-class.result ≡ true → (is_in d c.class_of.result ≡ true) × (is_in d c.loop-code.left ≡ true) =
     λ d h. and_parts (is_in d c.class_of.result) (is_in d c.loop-code.left) (where-passes test d (listed d h)) in
     let possible = c.args.pair.now.naming.now.possible.items in
@@ -120,7 +121,8 @@ loop-code-preserved c =
           elim (is_in d c.intersection-class.result) as (λ (b : Bool). is_in d c.intersection-class.result ≡ b → is_in d c.without-left.result ≡ true) [
             | true ↦ λ e.
                 let own : is_in d c.class_of.result ≡ true =
-                (and_parts (is_in d c.class_of.result) (is_in d c.loop-code.left) (where-passes class d (sym (ap (is_in d) c.intersection-class.ensures) ∙ e))).0 in
+                (and_parts (is_in d c.class_of.result) (is_in d c.loop-code.left)
+                (where-passes class d (sym (ap (is_in d) c.intersection-class.ensures) ∙ e))).0 in
                 let same = one-through turn left right code d x (c.class_of.ensures.same d low own) (one-back turn left right x d one) in
                 let too : is_in x c.intersection-class.result ≡ true =
                 ap (is_in x) c.intersection-class.ensures
@@ -151,7 +153,8 @@ follow-requires-clause-class c =
     let member = c.in-Some.ensures.member in
     let inv = c.loop-code.invariant in
     let test : ℕ → Bool = λ x. is_in x c.class_of.result && is_in x c.loop-code.left in
-    let listed : (d : ℕ) → is_in d c.intersection-class.result ≡ true → is_in d (codes_where test) ≡ true = λ d h. sym (ap (is_in d) c.intersection-class.ensures) ∙ h in
+    let listed : (d : ℕ) → is_in d c.intersection-class.result ≡ true → is_in d (codes_where test) ≡ true =
+    λ d h. sym (ap (is_in d) c.intersection-class.ensures) ∙ h in
     let parts : (d : ℕ) → is_in d c.intersection-class.result ≡ true → (is_in d c.class_of.result ≡ true) × (is_in d c.loop-code.left ≡ true) =
     λ d h. and_parts (is_in d c.class_of.result) (is_in d c.loop-code.left) (where-passes test d (listed d h)) in
     record {

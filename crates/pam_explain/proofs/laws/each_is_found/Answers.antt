@@ -22,7 +22,8 @@ use Rattle.pam_explain.proofs.laws.each_is_found.Goals as goal
 pub returns : goal.returns
 unfolding families caller_is_root jump_into_include jump_past_end left_over lets_anybody_in lets_nobody_in never_asked no_function no_module no_other
     nothing_accepted other_answers too_large unreachable_name blank_in_token empty_separator finish_minute leading_blank long_field loopback
-    mask_digits no_line_feed_in_access_table no_line_feed_in_time_table odd_bytes zero_mask cursor_syntax moment_syntax not_least moment_range zone_rule too_long too_short
+    mask_digits no_line_feed_in_access_table no_line_feed_in_time_table odd_bytes zero_mask
+    cursor_syntax moment_syntax not_least moment_range zone_rule too_long too_short
     backslash_blank backslash_comment capital_in_brackets carriage_return continued_over_blank dropped_blank empty_module_name ends_in_continuation
     long_line bad_action bad_control bad_kind bad_value missing_field_of_rules nul_byte_of_rules open_bracket zero_jump bad_target cycle file_too_long
     include_in_single_file memory_of_stacks missing_target no_service too_deep too_many_followed too_many_modules too_many_states wrong_count
