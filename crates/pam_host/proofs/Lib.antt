@@ -18,4 +18,3 @@ pub mod Seen
 pub mod Silence
 pub mod Taking
 pub mod Verdicted
-pub mod WayCodes

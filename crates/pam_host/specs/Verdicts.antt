@@ -3,6 +3,7 @@ use Rattle.std.specs.Prelude.{◌≡◌, ◌⊎◌, ℕ, ◌&&◌, ◌||◌, Boo
 use Rattle.std.specs.Prelude.{Option, Some, None, Ok, slice_get, unwrap_or}
 use Rattle.std.specs.Str.{bytes_eq}
 use Rattle.std.specs.Option.{option_map_or}
+use Rattle.pam_codes.specs.Code.{auth_err}
 use Rattle.pam_codes.specs.Set.{codes_where, is_in}
 use Rattle.pam_check.specs.Asked.{AreExactly, IsNeverAsked, JumpsPastEnd}
 use Rattle.pam_check.specs.Soundness.{HasTooManyPlaces, SaysNobody, SaysWayIn}
@@ -10,7 +11,7 @@ use Rattle.pam_conf.specs.Files.{Folder}
 use Rattle.pam_conf.specs.Resolution.{resolved}
 use Rattle.pam_conf.specs.Stack.{Items, ModuleText, module_at, module_count}
 use Rattle.pam_conf.specs.declared.rule.Kind.{Kind}
-use Rattle.pam_facts.specs.Answers.{Allows, auth_err, failing_answers, free_answers, is_there}
+use Rattle.pam_facts.specs.Answers.{Allows, failing_answers, free_answers, is_there}
 use Rattle.pam_facts.specs.Facts.{has_function}
 use Rattle.pam_facts.specs.Fitting.{fact_of}
 use Rattle.pam_facts.specs.Paths.{module_name}

@@ -1,7 +1,6 @@
 //! A way in, by which anybody gets in.
 
-ghost use Rattle.std.specs.Prelude.{◌≡◌, ◌&&◌, IfOk};
-ghost use Rattle.pam_codes.specs.Set.{codes_where, is_in};
+ghost use Rattle.std.specs.Prelude.{◌≡◌, IfOk};
 ghost use Rattle.pam_paths.specs.Known.{may_answer};
 ghost use Rattle.pam_paths.specs.Steps.{step_seen};
 ghost use Rattle.pam_host.specs.Verdicts.{answer_among, answer_on, answers_on};
@@ -27,23 +26,14 @@ pub struct WayIn {
     pub answers: Vec<Answered>,
 }
 
-/// The number of the code of a module that fails to check who logs in.
-const AUTH_ERR: u8 = 7;
-
-/// The codes in both sets.
-fn common(one: CodeSet, other: CodeSet) -> CodeSet
-    ensures { result ≡ codes_where (λ code. is_in code one && is_in code other) }
-{
-    one.without(one.without(other))
-}
-
 /// `auth_err` if it is among these codes, else the first of them.
 fn answer_among(codes: CodeSet) -> Code
     ensures { result ≡ answer_among codes }
 {
-    match Code::new(AUTH_ERR) {
-        Some(code) if codes.contains(code) => code,
-        _ => codes.least().unwrap_or(Code::SUCCESS),
+    if codes.contains(Code::AUTH_ERR) {
+        Code::AUTH_ERR
+    } else {
+        codes.least().unwrap_or(Code::SUCCESS)
     }
 }
 
@@ -51,7 +41,7 @@ fn answer_among(codes: CodeSet) -> Code
 fn answer_on(known: &Known, step: &PathStep) -> Answered
     ensures { result ≡ answer_on (may_answer known.now) (step_seen step.now) }
 {
-    let codes = common(step.class(), known.allowed(step.number()));
+    let codes = step.class().intersection(known.allowed(step.number()));
     Answered {
         number: step.number(),
         code: answer_among(codes),

@@ -1,5 +1,5 @@
 -- For private contracts and proofs alone: the stacks that meet a problem, one after another.
-use Rattle.std.specs.Prelude.{◌≡◌, ◌⊎◌, ℕ, ◌+◌, ◌==◌, true, false, if◌then◌else◌, Option, Some, None, unwrap_or}
+use Rattle.std.specs.Prelude.{◌≡◌, ◌⊎◌, ℕ, ◌+◌, ◌==◌, if◌then◌else◌, Option, Some, None, unwrap_or}
 use Rattle.pam_conf.specs.declared.rule.Kind.{Kind}
 use Rattle.pam_facts.specs.Kinds.{no_kinds, with_kind}
 use Rattle.pam_host.specs.Met.{AreMet, IsMetByNone}
