@@ -19,9 +19,8 @@ use Rattle.pam_dispatch.specs.State.{start_state}
 use Rattle.pam_dispatch.specs.Tree.{ask_of, count, decided, run_after}
 use Rattle.pam_dispatch.specs.declared.state.State.{State}
 use Rattle.pam_dispatch.specs.declared.step.Outcome.{Outcome}
-use Rattle.pam_codes.specs.Code.{all_codes}
+use Rattle.pam_codes.specs.Code.{all_codes, module_unknown}
 use Rattle.pam_facts.specs.Answers.{answers_at, free_answers, is_there, module_answers}
-use Rattle.pam_facts.specs.Facts.{module_unknown}
 use Rattle.pam_facts.specs.Rows.{Row}
 use Rattle.pam_known.specs.Answers.{name_of_path}
 use Rattle.pam_settings.specs.Settings.{SettingText}
