@@ -1,6 +1,6 @@
 //! The lines of an accept file.
 
-ghost use Rattle.std.specs.Prelude.{◌≡◌, MatchResult, map};
+ghost use Rattle.std.specs.Prelude.{map};
 ghost use Rattle.pam_accept.specs.Error.{Gives};
 ghost use Rattle.pam_accept.specs.Lines.{accepted_lines, lines_from, physical_lines};
 ghost use Rattle.pam_accept.specs.inner.Lines.{AddsLine};

@@ -1,9 +1,7 @@
 //! How the modules of two stacks differ.
 
-ghost use Rattle.std.specs.Prelude.{◌≡◌, ◌≤◌, IfOk, filter, is_none, not};
-ghost use Rattle.pam_conf.specs.Stack.{module_at, module_count};
-ghost use Rattle.pam_conf.specs.declared.stack.TheConstants.{MAX_MODULES};
-ghost use Rattle.pam_compare.specs.Matching.{is_taken, partner_of};
+ghost use Rattle.std.specs.Prelude.{◌≡◌, IfOk, filter, is_none};
+ghost use Rattle.pam_compare.specs.Matching.{partner_of};
 ghost use Rattle.pam_changes.specs.Modules.{AreModuleChanges, added as added_in, comes_later, comes_sooner, differ, moved as moved_in, new_where};
 ghost use Rattle.pam_changes.specs.Modules.{pairs_of, removed as removed_in, same_arguments, same_controls};
 

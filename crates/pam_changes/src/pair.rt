@@ -1,6 +1,6 @@
 //! Two stacks that are not the same.
 
-ghost use Rattle.std.specs.Prelude.{◌≡◌, IfOk, List, Option, ℕ};
+ghost use Rattle.std.specs.Prelude.{◌≡◌, IfOk, Option};
 ghost use Rattle.pam_compare.specs.Comparison.{AreChanges as AreCompared, IsComparison, IsShown as IsWitnessed};
 ghost use Rattle.pam_compare.specs.Matching.{matching_of};
 ghost use Rattle.pam_compare.specs.declared.change.Change.{Change};

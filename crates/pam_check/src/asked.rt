@@ -1,6 +1,6 @@
 //! Which modules are asked.
 
-ghost use Rattle.std.specs.Prelude.{◌≡◌, ℕ, ◌-◌, ◌≤◌, ◌==◌, ◌||◌, [], All, IfErr, IfOk, List, false, filter, not};
+ghost use Rattle.std.specs.Prelude.{◌≡◌, ℕ, ◌-◌, ◌≤◌, ◌==◌, ◌||◌, [], IfErr, IfOk, false, filter, not};
 ghost use Rattle.std.specs.List.{range_with_len};
 ghost use Rattle.pam_conf.specs.declared.stack.TheConstants.{MAX_MODULES};
 ghost use Rattle.pam_conf.specs.Stack.{Items};

@@ -1,6 +1,6 @@
 //! The modules that can jump past the end of their list.
 
-ghost use Rattle.std.specs.Prelude.{◌≡◌, ◌∷◌, ◌++◌, [], IfErr, IfOk, OnOk, if◌then◌else◌};
+ghost use Rattle.std.specs.Prelude.{◌≡◌, ◌∷◌, ◌++◌, [], IfOk, OnOk, if◌then◌else◌};
 ghost use Rattle.pam_conf.specs.ItemsOf.{items_of, module_text};
 ghost use Rattle.pam_paths.specs.Known.{may_answer};
 ghost use Rattle.pam_check.specs.Asked.{AreExactly, JumpsPastEnd};

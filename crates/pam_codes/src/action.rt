@@ -61,6 +61,9 @@ fn decimal(digits: &[u8]) -> u32
 impl Action {
     /// The action with this name, ignoring ASCII case, or a jump of this number. Returns `BadAction` for any other word, and
     /// `ZeroJump` for a jump over no items.
+    //
+    // Inlined wherever a control is read, although it has more than one caller: it is asked for every pair.
+    #[inline(always)]
     #[tactic(auto, unfolding(crate::specs::Action::action_named))]
     pub fn from_name(word: &[u8]) -> Result<Action, ControlError>
         ensures value { result ≡ action_named word.now }

@@ -1,6 +1,6 @@
 //! Return codes and their names.
 
-ghost use Rattle.std.specs.Prelude.{◌≡◌, ◌<◌, ◌^◌, Some, None, position, option_and_then, slice_get, nat_lt, if◌then◌else◌};
+ghost use Rattle.std.specs.Prelude.{◌≡◌, ◌<◌, Some, None, position, slice_get, nat_lt, if◌then◌else◌};
 ghost use Rattle.pam_codes.specs.Code.{code_names, same_name};
 ghost use Rattle.pam_codes.specs.inner.Code.{has_len};
 ghost use Rattle.pam_codes.specs.Set.{codes_where};
@@ -10,11 +10,15 @@ use std::marker::Model;
 /// The number of return codes.
 pub const CODES: usize = 31;
 
-/// Whether `text` is `name`, ignoring ASCII case. Most names are written in lowercase, and equal bytes are found sooner.
+/// Whether `text` is `name`, ignoring ASCII case.
+//
+// Most texts differ in length from most names, and most names are written in lowercase: the lengths are compared first, then
+// the bytes as they are. Inlined with the readers of names, so that the length of each name is a constant there.
+#[inline(always)]
 pub fn is_name(name: &[u8], text: &[u8]) -> bool
     ensures { result ≡ same_name name.now text.now }
 {
-    name == text || name.eq_ignore_ascii_case(text)
+    name.len() == text.len() && (name == text || name.eq_ignore_ascii_case(text))
 }
 
 /// A return code of a module: one of the 31 that pam.conf(5) names.
@@ -43,7 +47,7 @@ impl Code {
     /// Permission is denied.
     pub const PERM_DENIED: Code = Code { number: 6 };
 
-    /// The user is not who they say they are.
+    /// Authentication failed.
     pub const AUTH_ERR: Code = Code { number: 7 };
 
     /// The user must choose a new password.

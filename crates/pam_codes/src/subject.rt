@@ -18,6 +18,9 @@ pub enum Subject {
 
 impl Subject {
     /// The value with this name, ignoring ASCII case. Returns `BadValue` for any other word.
+    //
+    // Inlined wherever a control is read, as `Action::from_name` is.
+    #[inline(always)]
     #[tactic(auto, unfolding(crate::specs::Subject::subject_of))]
     pub fn from_name(word: &[u8]) -> Result<Subject, ControlError>
         ensures { result ≡ subject_of word.now }

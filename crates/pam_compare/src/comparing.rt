@@ -1,7 +1,7 @@
 //! The comparison.
 
-ghost use Rattle.std.specs.Prelude.{◌≡◌, ◌+◌, ◌<◌, ◌≤◌, ℕ, IfNone, IfOk, IfSome, IsTrue, List, None, OnOk, Option, Some, length, slice_get};
-ghost use Rattle.pam_dispatch.specs.Flat.{IsPlaceOf, modules_of, rest_of, runs_of};
+ghost use Rattle.std.specs.Prelude.{◌≡◌, ◌+◌, ◌<◌, ◌≤◌, ℕ, IfNone, IfOk, IfSome, List, None, OnOk, Option, Some, length, slice_get};
+ghost use Rattle.pam_dispatch.specs.Flat.{IsPlaceOf, rest_of};
 ghost use Rattle.pam_dispatch.specs.Runs.{Assignment, asked_module};
 ghost use Rattle.pam_compare.specs.declared.change.Change.{Change};
 ghost use Rattle.pam_compare.specs.declared.situation.Situation.{Situation};

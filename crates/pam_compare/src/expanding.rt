@@ -1,6 +1,6 @@
 //! The nodes that follow one.
 
-ghost use Rattle.std.specs.Prelude.{◌≡◌, ◌+◌, ◌<◌, ℕ, IfNone, IfOk, IfSome, IsTrue, None, OnOk, Some, length, slice_get, slice_index_or};
+ghost use Rattle.std.specs.Prelude.{◌≡◌, ◌+◌, ◌<◌, ℕ, IsTrue, OnOk, Some, length, slice_get, slice_index_or};
 ghost use Rattle.pam_codes.specs.Code.{all_codes};
 ghost use Rattle.pam_codes.specs.Set.{is_in};
 ghost use Rattle.pam_dispatch.specs.Flat.{IsPlaceOf, rest_of};

@@ -261,7 +261,7 @@ pub(crate) fn held_after(
 ) -> Result<HeldAfter, Memory>
     ensures holds { IfOk result (λ after. (a : Assignment) → Holds a held.now → IsTrue (is_in (a answer.name) answer.codes)
         → Holds a (held_in after held.now)) }
-    ensures told { (modules : ℕ) → length naming.now.names.items ≡ modules + 1 → AreLast naming.now.names.items naming.now.last.items
+    ensures held { (modules : ℕ) → length naming.now.names.items ≡ modules + 1 → AreLast naming.now.names.items naming.now.last.items
         → IfOk result (λ after. IsHeldAfter naming.now.possible.items naming.now.names.items naming.now.old_modules modules held.now
         (held_in after held.now) answer step.old step.new) }
     ensures exact { (modules : ℕ) (old_before new_before : Option ℕ) → AreTables naming.now modules → IsNumber step.new

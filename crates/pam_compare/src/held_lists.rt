@@ -1,6 +1,6 @@
 //! Lists of held answers, each stored once: a list is its last answer and the list before it.
 
-ghost use Rattle.std.specs.Prelude.{◌≡◌, ◌<◌, ◌≤◌, ◌+◌, ◌-◌, ◌^◌, ◌∷◌, ◌++◌, List, ℕ, IfOk, OnOk, Some, drop, length, slice_get};
+ghost use Rattle.std.specs.Prelude.{◌≡◌, ◌<◌, ◌≤◌, ◌+◌, ◌-◌, ◌^◌, ◌∷◌, ◌++◌, List, IfOk, OnOk, Some, drop, length, slice_get};
 ghost use Rattle.std.specs.List.{IsDistinct};
 ghost use Rattle.pam_compare.specs.declared.held.HeldAnswer.{HeldAnswer};
 ghost use Rattle.pam_compare.specs.inner.Held.{held_in};

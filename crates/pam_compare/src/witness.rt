@@ -10,7 +10,7 @@ ghost use Rattle.pam_compare.specs.Comparison.{IsWitness, decision_in};
 ghost use Rattle.pam_compare.specs.Names.{AreNames, by_name};
 ghost use Rattle.pam_compare.specs.inner.Naming.{IsKnown, IsPossible, by_code};
 ghost use Rattle.pam_compare.specs.inner.Trails.{AreAnswers, IsTrail, answers_on};
-ghost use Rattle.pam_compare.specs.inner.Ways.{AreReached, IsEnd, IsNaming};
+ghost use Rattle.pam_compare.specs.inner.Ways.{AreReached, IsEnd};
 
 use crate::naming::{Naming, possible_at, value_at};
 use crate::node::Pair;

@@ -3,7 +3,7 @@ ghost use Rattle.std.specs.Prelude.{◌≡◌, ◌<◌, ◌∷◌, ◌++◌, [],
 ghost use Rattle.std.specs.Option.{option_map};
 ghost use Rattle.pam_conf.specs.Resolution.{start_of};
 ghost use Rattle.pam_conf.specs.inner.StartOf.{start_text};
-ghost use Rattle.pam_conf.specs.Stack.{End, Items};
+ghost use Rattle.pam_conf.specs.Stack.{End};
 ghost use Rattle.pam_conf.specs.Survey.{both_surveys, good_at, survey_from, survey_starts, survey_without_own, surveyed};
 ghost use Rattle.pam_conf.specs.SurveyText.{survey_text};
 

@@ -1,10 +1,10 @@
 //! The words of a line: pam.conf(5), on brackets in arguments.
-ghost use Rattle.std.specs.Prelude.{◌≡◌, ◌==◌, ◌≤◌, ◌<◌, ◌-◌, ◌∷◌, ◌++◌, [], ℕ, List, Some, None, Ok, Err, not, true, map, take, drop};
+ghost use Rattle.std.specs.Prelude.{◌≡◌, ◌==◌, ◌≤◌, ◌<◌, ◌-◌, ◌∷◌, [], Some, None, Ok, Err, not, true, map, take, drop};
 ghost use Rattle.std.specs.Prelude.{IfOk, IfSome, IsTrue, MatchOption, MatchResult, IsSome, false, length, slice_index};
 ghost use Rattle.std.specs.List.{list_any, prefix_len, onto_first};
 ghost use Rattle.std.specs.Option.{option_map};
 ghost use Rattle.pam_codes.specs.Tokens.{is_blank};
-ghost use Rattle.pam_conf.specs.Words.{Between, Bracket, has_no_blank, words_in, words_of, words_or_fault};
+ghost use Rattle.pam_conf.specs.Words.{Bracket, has_no_blank, words_in, words_of, words_or_fault};
 ghost use Rattle.pam_conf.specs.inner.FirstWord.{words_from};
 ghost use Rattle.pam_conf.specs.Words.{unescaped, text_of_word};
 

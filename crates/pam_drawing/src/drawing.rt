@@ -1,6 +1,5 @@
 //! Drawings of graphs.
 
-ghost use Rattle.std.specs.Prelude.{◌≡◌};
 ghost use Rattle.pam_codes.specs.Out.{Writes};
 ghost use Rattle.pam_drawing.specs.Drawing.{drawing, first_lines, last_line, next_lines, shapes_text, start_and_edges, title_text};
 ghost use Rattle.pam_drawing.specs.declared.format.Format.TheVariants.{Dot, Mermaid};

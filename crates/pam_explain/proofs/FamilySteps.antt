@@ -35,14 +35,14 @@ all_have_rows : list_all has_rows families ≡ true
 unfolding families
 all_have_rows = refl
 
--- any bound below 2^64 will do
+-- any bound below 2^64 will do here, and any below 255 for families
 all_are_few : length explanations ≤ 1000
 unfolding families
 all_are_few = leb-true (length explanations) 1000 refl
 
-are_few : length families ≡ 8
+are_few : length families ≤ 200
 unfolding families
-are_few = refl
+are_few = leb-true (length families) 200 refl
 
 short_at : (xs : List (List Explanation)) (n : ℕ) → length (get_or xs n []) ≤ length (rows_of xs)
 short_at [] n = omega arith

@@ -1,6 +1,6 @@
 //! The rows of a facts file.
 
-ghost use Rattle.std.specs.Prelude.{◌≡◌, ◌∷◌, ◌++◌, [], IfErr, MatchResult, Ok, Err, OnErr, OnOk, map, not};
+ghost use Rattle.std.specs.Prelude.{◌≡◌, ◌∷◌, ◌++◌, [], IfErr, MatchResult, Ok, Err, OnErr, OnOk, map};
 ghost use Rattle.std.specs.Option.{option_map};
 ghost use Rattle.pam_facts.specs.Codes.{codes_said};
 ghost use Rattle.pam_facts.specs.Error.{Gives, no_memory};

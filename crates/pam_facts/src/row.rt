@@ -1,8 +1,7 @@
 //! The facts of a module.
 
-ghost use Rattle.std.specs.Prelude.{◌≡◌, ◌≢◌, ◌==◌, ◌||◌, ◌↔◌, ◌∷◌, [], IsTrue, not, if◌then◌else◌};
+ghost use Rattle.std.specs.Prelude.{◌≡◌, ◌≢◌, ◌==◌, ◌||◌, [], if◌then◌else◌};
 ghost use Rattle.pam_codes.specs.Set.{codes_where, is_in};
-ghost use Rattle.pam_conf.specs.declared.rule.Kind.{Kind as KindText};
 ghost use Rattle.pam_facts.specs.Facts.{codes_in, codes_of, has_function, is_unknown_alone, unknown};
 
 use crate::kinds::Kinds;

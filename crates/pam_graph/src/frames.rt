@@ -1,6 +1,6 @@
 //! The frames of a walk: the nodes on it, with the edges that are left at each.
 
-ghost use Rattle.std.specs.Prelude.{◌≡◌, ◌≢◌, ◌-◌, ◌<◌, ◌∷◌, ◌++◌, ◌||◌, [], Bool, false, IfNone, IfSome, List, Some, ℕ, drop, length, map, take};
+ghost use Rattle.std.specs.Prelude.{◌≡◌, ◌≢◌, ◌-◌, ◌<◌, ◌∷◌, ◌++◌, [], false, IfNone, IfSome, List, Some, ℕ, drop, length, map, take};
 ghost use Rattle.pam_conf.specs.declared.stack.TheConstants.{MAX_MODULES};
 ghost use Rattle.pam_graph.specs.Frames.{ahead, along, edges_in, under, wanted_by};
 ghost use Rattle.pam_graph.specs.inner.Frames.{AreFrames, IsSearch, walk_to};

@@ -9,7 +9,7 @@ ghost use Rattle.pam_paths.specs.Classes.{Member};
 ghost use Rattle.pam_host.specs.inner.Looked.{OfModule, OfModules, OfRule, spot_at};
 ghost use Rattle.pam_host.specs.StackProblems.{InItems};
 ghost use Rattle.pam_host.specs.inner.Table.{Adds};
-ghost use Rattle.pam_host.specs.Verdicts.{HasOther, denies_or_warns, is_other};
+ghost use Rattle.pam_host.specs.Verdicts.{HasOther, is_other};
 
 use crate::callers::caller_is_root;
 use crate::known_modules::Modules;

@@ -1,9 +1,9 @@
 //! The names of files and services.
 
-ghost use Rattle.std.specs.Prelude.{◌≡◌, codes, drop, map, nat_eq};
-ghost use Rattle.std.specs.List.{list_any, starts_with};
+ghost use Rattle.std.specs.Prelude.{◌≡◌};
+ghost use Rattle.std.specs.List.{starts_with};
 ghost use Rattle.pam_host.specs.FolderProblems.{is_unreachable};
-ghost use Rattle.pam_host.specs.Services.{begins, ends, has_capital, has_text, is_left_over, is_service};
+ghost use Rattle.pam_host.specs.Services.{has_capital, has_text, is_left_over, is_service};
 
 /// Whether a name has a capital letter.
 fn has_capital(name: &[u8]) -> bool

@@ -2,7 +2,6 @@
 
 ghost use Rattle.std.specs.Prelude.{◌≡◌, OnOk, Some};
 ghost use Rattle.pam_paths.specs.Classes.{Member};
-ghost use Rattle.pam_host.specs.Problems.{place_of};
 ghost use Rattle.pam_host.specs.inner.Table.{Puts, Removes, finding_at, met_of, with_met, with_stack};
 
 use crate::met::Met;

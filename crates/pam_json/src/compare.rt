@@ -1,6 +1,5 @@
 //! The JSON of `compare`: a line for each change, and a last line with their numbers.
 
-ghost use Rattle.std.specs.Prelude.{◌≡◌};
 ghost use Rattle.pam_codes.specs.Out.{Writes};
 ghost use Rattle.pam_json_lines.specs.Line.{line};
 ghost use Rattle.pam_json.specs.Compare.{compared_json, only_members};

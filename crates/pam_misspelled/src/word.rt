@@ -1,6 +1,6 @@
 //! The word that is wrong in a line.
 
-ghost use Rattle.std.specs.Prelude.{◌≡◌, IfOk, map};
+ghost use Rattle.std.specs.Prelude.{◌≡◌, IfOk};
 ghost use Rattle.std.specs.Option.{option_map};
 ghost use Rattle.pam_misspelled.specs.Misspelled.{fault_word, misspelled_in, nearest_to, with_nearest, wrong_word};
 ghost use Rattle.pam_misspelled.specs.MisspelledView.{misspelled_view};

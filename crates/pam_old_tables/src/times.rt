@@ -1,11 +1,10 @@
 //! The findings of a time table.
 
 ghost use Rattle.std.specs.Prelude.{◌≡◌, ◌++◌, IfOk, OnOk};
-ghost use Rattle.std.specs.Option.{option_map};
 ghost use Rattle.pam_text.specs.Text.{text_lines, text_of};
-ghost use Rattle.pam_times.specs.Reading.{cut_fields, fields_view};
+ghost use Rattle.pam_times.specs.Reading.{cut_fields};
 ghost use Rattle.pam_old_tables.specs.Findings.{found_at};
-ghost use Rattle.pam_old_tables.specs.Times.{has_past_midnight, have_long, have_odd_byte, last_number, of_fields};
+ghost use Rattle.pam_old_tables.specs.Times.{has_past_midnight, have_long, have_odd_byte, last_number};
 ghost use Rattle.pam_old_tables.specs.Times.{time_findings, time_tests};
 ghost use Rattle.pam_old_tables.specs.Times.{unfinished_line};
 

@@ -1,13 +1,10 @@
 //! The kept texts of the path whose line was written last.
 
-ghost use Rattle.std.specs.List.{concat, flat_map};
-ghost use Rattle.std.specs.Prelude.{◌≡◌, ◌++◌, ◌∷◌, ◌-◌, ◌<◌, ◌≤◌, ◌^◌, [], if◌then◌else◌, IfOk, IsTrue, codes, decimal, length, map, take};
-ghost use Rattle.pam_codes.specs.Out.{Writes};
+ghost use Rattle.std.specs.Prelude.{◌≡◌, ◌++◌, ◌∷◌, ◌-◌, ◌<◌, [], if◌then◌else◌, IfOk, IsTrue, codes, length, map, take};
 ghost use Rattle.pam_codes.specs.SetText.{set_text};
 ghost use Rattle.pam_page.specs.inner.KeptSteps.{code_text};
 ghost use Rattle.pam_page.specs.Page.{path_line, step_text};
 ghost use Rattle.pam_paths.specs.Steps.{step_seen};
-ghost use Rattle.pam_paths.specs.Tail.{IsTail};
 
 use crate::buffer::Buffer;
 use crate::classes::ClassTexts;

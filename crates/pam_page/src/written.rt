@@ -1,6 +1,6 @@
 //! The lines of a page, written part by part.
 
-ghost use Rattle.std.specs.Prelude.{◌≡◌, ◌-◌, ◌<◌, ◌^◌, None, Some, map};
+ghost use Rattle.std.specs.Prelude.{◌-◌, ◌<◌, None, Some, map};
 ghost use Rattle.std.specs.List.{flat_map};
 ghost use Rattle.pam_codes.specs.Out.{Writes};
 ghost use Rattle.pam_page.specs.Page.{last_line, path_line, step_text};

@@ -1,8 +1,7 @@
 //! Knowledge of the answers of modules.
 
 ghost use Rattle.std.specs.Prelude.{◌≡◌, ◌≢◌, ◌≤◌, ◌<◌, ◌==◌, ◌-◌, [], if◌then◌else◌, slice_index_or, ℕ};
-ghost use Rattle.pam_codes.specs.Code.{all_codes};
-ghost use Rattle.pam_codes.specs.Set.{codes_where, is_in};
+ghost use Rattle.pam_codes.specs.Set.{codes_where};
 ghost use Rattle.pam_paths.specs.Known.{answers_by};
 
 use pam_codes::CodeSet;
@@ -60,7 +59,6 @@ impl Default for Known {
 
 impl Known {
     ghost use Rattle.std.specs.Prelude.{◌≡◌, ◌≢◌, ◌≤◌, ◌==◌, ℕ, [], if◌then◌else◌};
-    ghost use Rattle.pam_codes.specs.Set.{is_in};
     ghost use Rattle.pam_paths.specs.Known.{KnowsNothing, set_for};
 
     /// No module is set.

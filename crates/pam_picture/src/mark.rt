@@ -1,6 +1,5 @@
 //! The pieces of the text of a picture.
 
-ghost use Rattle.std.specs.List.{flat_map};
 ghost use Rattle.pam_codes.specs.Out.{Writes};
 ghost use Rattle.pam_picture.specs.inner.Marks.{mark_text, marks_text};
 ghost use Rattle.pam_picture.specs.Picture.{bend_text};

@@ -1,7 +1,7 @@
 //! Where the shapes are, by what they show.
 
 ghost use Rattle.std.specs.Prelude.{◌≡◌};
-ghost use Rattle.pam_picture.specs.Places.{column_at, control_at, end_at, no_end, no_route, origin, point_at, point_of, route_at};
+ghost use Rattle.pam_picture.specs.Places.{column_at, control_at, end_at, no_route, origin, point_at, point_of, route_at};
 
 use crate::layout::Layout;
 use crate::layout::shapes::{Bend, EndPlace, Point, Route};

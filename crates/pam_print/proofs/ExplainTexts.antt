@@ -1,6 +1,6 @@
 -- The text of `explain`, part by part.
-use Rattle.std.proofs.Common.{◌≡◌, ◌∙◌, ℕ, true, false, List, [], ◌∷◌, ◌++◌, ap, append-nil, append_assoc, arith, codes, eqb, length, refl, sym}
-use Rattle.std.proofs.lemmas.Bool.{eqb-true, false≢true}
+use Rattle.std.proofs.Common.{◌≡◌, ◌∙◌, ℕ, true, false, List, [], ◌∷◌, ◌++◌, ap, append-nil, append_assoc, codes, eqb, length, refl, sym}
+use Rattle.std.proofs.lemmas.Bool.{false≢true}
 use Rattle.std.specs.List.{concat, flat_map}
 use Rattle.pam_explain.specs.Explanation.{Explanation}
 use Rattle.pam_words.specs.Words.{version}

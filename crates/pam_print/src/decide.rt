@@ -1,6 +1,6 @@
 //! The text of `decide`: the modules that a run asks, and the decision.
 
-ghost use Rattle.std.specs.Prelude.{◌≡◌, ◌++◌, map};
+ghost use Rattle.std.specs.Prelude.{◌≡◌, map};
 ghost use Rattle.pam_codes.specs.Out.{Writes, WritesAndFlushes};
 ghost use Rattle.pam_report.specs.ReplyViews.{asked_view, run_view};
 ghost use Rattle.pam_print.specs.Decide.{action_text, asked_text, code_text, decision_text, impression_name};

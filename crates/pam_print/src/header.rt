@@ -1,6 +1,6 @@
 //! The first line of an answer.
 
-ghost use Rattle.std.specs.Prelude.{◌≡◌, map};
+ghost use Rattle.std.specs.Prelude.{map};
 ghost use Rattle.std.specs.Char.{to_ascii_lowercase};
 ghost use Rattle.pam_codes.specs.Out.{Writes};
 ghost use Rattle.pam_print.specs.Header.{header_text};

@@ -1,6 +1,5 @@
 -- Without the numbers of their lines, the rules of a release are those of its definition.
 use Rattle.std.proofs.Common.{◌≡◌, ◌+◌, ◌++◌, ◌∙◌, ℕ, Bool, true, false, List, [], ◌∷◌, length, map, cond, eqb, ap, sym, refl, Option, Some, None}
-use Rattle.std.proofs.Common.{append_assoc}
 use Rattle.std.specs.Option.{option_map}
 use Rattle.pam_conf.specs.declared.rule.Form.{Form}
 use Rattle.pam_released.specs.Buffer.{at_end, buffered, piece_read}

@@ -1,6 +1,6 @@
 //! The logical lines of a file, as released Linux-PAM assembles them.
 
-ghost use Rattle.std.specs.Prelude.{◌≡◌, ◌+◌, ◌*◌, ◌<◌, ◌≤◌, ◌∷◌, ◌++◌, [], Bool, ℕ, List, IfOk, IfSome};
+ghost use Rattle.std.specs.Prelude.{◌≡◌, ◌+◌, ◌*◌, ◌<◌, ◌∷◌, ◌++◌, [], Bool, ℕ, List, IfOk, IfSome};
 ghost use Rattle.std.specs.Prelude.{MatchOption, OnOk, false, if◌then◌else◌, length, map};
 ghost use Rattle.std.specs.Option.{option_map};
 ghost use Rattle.pam_released.specs.Lines.{front_part, without_start_blanks};

@@ -1,7 +1,7 @@
 //! Physical lines, and which of them go on.
 
 ghost use Rattle.std.specs.Prelude.{◌≡◌, ◌==◌, ◌+◌, ◌*◌, ◌<◌, ◌≤◌, ◌∷◌, [], IfSome, MatchOption, length, not};
-ghost use Rattle.std.specs.List.{list_all, list_any, prefix_len};
+ghost use Rattle.std.specs.List.{list_all, prefix_len};
 ghost use Rattle.pam_released.specs.Bracket.{begins_in_blank, part};
 ghost use Rattle.pam_released.specs.Findings.{ends_in_blank};
 ghost use Rattle.pam_released.specs.Lines.{before_hash, ends_in_backslash, goes_on, has_hash, is_blank_line, is_space_or_tab};

@@ -1,7 +1,6 @@
 //! IPv4 and IPv6 addresses.
 
-ghost use Rattle.std.specs.Prelude.{◌≡◌, ◌≤◌, ◌+◌, ◌<◌, ◌^◌, IfSome, length};
-ghost use Rattle.std.specs.Option.{option_map};
+ghost use Rattle.std.specs.Prelude.{◌≡◌, ◌≤◌, ◌+◌, ◌<◌, IfSome};
 ghost use Rattle.pam_tables.specs.Address.{numeral, octet_of, all_four, v4_of, address_of};
 
 use crate::pieces::v6;

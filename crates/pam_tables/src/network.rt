@@ -1,6 +1,6 @@
 //! Networks: an address and a mask.
 
-ghost use Rattle.std.specs.Prelude.{◌≡◌, ◌≤◌, ◌-◌, ◌^◌, IsSome, IsTrue};
+ghost use Rattle.std.specs.Prelude.{◌≡◌, ◌≤◌, ◌-◌, IsSome, IsTrue};
 ghost use Rattle.pam_tables.specs.Error.{verdict};
 ghost use Rattle.pam_tables.specs.Address.{v4_of};
 ghost use Rattle.pam_tables.specs.Network.{ones, v4_mask_of, v6_mask_of, is_in_network, network_of, bits_agree};
@@ -85,9 +85,8 @@ fn v6_agree(first: u128, second: u128, mask: u128) -> bool
     first & mask == second & mask
 }
 
-/// Whether a mask is a number of bits that is no fault after `address`. An IPv6 address, which takes long to read, is not
-/// read for this.
-fn is_bits_of(mask: &[u8], address: &[u8]) -> bool
+/// Whether a mask is a prefix length that suits `address`. An IPv6 address takes long to read, so it is not read for this.
+fn is_prefix_length_for(mask: &[u8], address: &[u8]) -> bool
     ensures v4 { IsTrue result → IsSome (v4_of address.now) → IsSome (v4_mask_of mask.now) }
     ensures v6 { IsTrue result → IsSome (v6_mask_of mask.now) }
 {
@@ -131,7 +130,7 @@ impl Network {
             Some(parts) => parts,
             None => return Ok(()),
         };
-        if is_bits_of(mask, address) {
+        if is_prefix_length_for(mask, address) {
             return Ok(());
         }
         match Network::read(text) {

@@ -1,6 +1,6 @@
 //! The options of pam_access(8).
 
-ghost use Rattle.std.specs.Prelude.{◌≡◌, ◌↔◌, codes, true};
+ghost use Rattle.std.specs.Prelude.{◌≡◌, ◌↔◌, true};
 ghost use Rattle.std.specs.List.{list_any};
 ghost use Rattle.std.specs.Option.{option_map};
 ghost use Rattle.std.specs.Str.{bytes_eq};

@@ -1,7 +1,6 @@
 //! Entries of the times field: days of the week and a range of the day.
 
-ghost use Rattle.std.specs.Prelude.{◌≡◌, ◌+◌, ◌<◌, ◌≤◌, ◌&&◌, nat_le, length, slice_index, slice_index_or, false, IfSome};
-ghost use Rattle.std.specs.Option.{option_map};
+ghost use Rattle.std.specs.Prelude.{◌≡◌, ◌+◌, ◌<◌, ◌&&◌, length, slice_index_or, false};
 ghost use Rattle.pam_codes.specs.Code.{same_name};
 ghost use Rattle.pam_times.specs.Entry.{covers, named_days, days_of, time_at, finish_at, entry_of, goes_past_midnight, holds};
 ghost use Rattle.pam_times.specs.inner.Entry.{toggled};

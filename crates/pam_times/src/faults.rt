@@ -2,7 +2,6 @@
 
 ghost use Rattle.std.specs.Prelude.{◌≡◌, ◌∷◌, ◌++◌, [], IfOk, OnOk};
 ghost use Rattle.pam_text.specs.Text.{text_lines, text_of};
-ghost use Rattle.pam_times.specs.inner.Checks.{line_checked};
 ghost use Rattle.pam_times.specs.Faults.{line_fault, line_faults, time_faults};
 ghost use Rattle.pam_times.specs.Reading.{rule_of};
 

@@ -3,7 +3,6 @@
 ghost use Rattle.std.specs.Prelude.{◌≡◌, ◌≤◌, ◌<◌, ◌==◌, ◌||◌, ℕ, [], Ok, Some, length, true, IfSome};
 ghost use Rattle.std.specs.List.{prefix_len};
 ghost use Rattle.pam_times.specs.inner.Checks.{line_checked, list_checked};
-ghost use Rattle.pam_times.specs.Logic.{is_token_byte};
 ghost use Rattle.pam_times.specs.inner.OnePass.{PassesItem, before, is_inside, onward, token_ends};
 ghost use Rattle.pam_times.specs.Reading.{rule_of, semicolon_cut};
 

@@ -1,6 +1,6 @@
 //! Names with one wildcard.
 
-ghost use Rattle.std.specs.Prelude.{◌≡◌, ◌↔◌, ◌<◌, ◌==◌, length, position, nat_eq, nat_lt, count_by, IfSome, IsTrue};
+ghost use Rattle.std.specs.Prelude.{◌≡◌, ◌↔◌, ◌<◌, ◌==◌, length, position, nat_eq, IfSome, IsTrue};
 ghost use Rattle.std.specs.List.{ends_with};
 ghost use Rattle.pam_times.specs.Pattern.{is_star, has_two_stars, matches};
 ghost use Rattle.pam_times.specs.inner.Pattern.{Means};

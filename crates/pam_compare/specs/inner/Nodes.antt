@@ -73,7 +73,7 @@ pub record Stop : Type 0 where
 abbrev pub stop_of : Node → Stop
 stop_of node = record { old = node.old; new = node.new; held = node.held.items }
 
--- a situation stands for a stop: it has the numbers of the stop's places and of its held list
+-- the situation has the numbers of the stop's places and of its held list
 pub record IsAt (nodes : Nodes) (s : Situation) (n : Stop) : Type 0 where
   pub old : slice_get nodes.old_places.places.items s.old ≡ Some n.old
   pub new : slice_get nodes.new_places.places.items s.new ≡ Some n.new

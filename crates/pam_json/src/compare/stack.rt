@@ -1,6 +1,5 @@
 //! A stack that is refused, and one that was told before.
 
-ghost use Rattle.std.specs.Prelude.{◌≡◌};
 ghost use Rattle.pam_codes.specs.Out.{Writes};
 ghost use Rattle.pam_json_lines.specs.Line.{line};
 ghost use Rattle.pam_json.specs.Compare.{as_members, refused_json};

@@ -1,8 +1,7 @@
 //! The `check` command: what is wrong with a host.
 
-ghost use Rattle.std.specs.Prelude.{◌≡◌, [], IfOk, IfErr, MatchResult, option_map, true, unwrap_or};
-ghost use Rattle.std.specs.Option.{option_copied, option_map_or};
-ghost use Rattle.pam_host.specs.Levels.{level_of};
+ghost use Rattle.std.specs.Prelude.{◌≡◌, [], IfOk, IfErr, MatchResult, true, unwrap_or};
+ghost use Rattle.std.specs.Option.{option_copied};
 ghost use Rattle.pam_report.specs.Check.{IsCheck};
 ghost use Rattle.pam_report.specs.inner.Check.{IsAccepted, IsListedFrom, IsReported, IsUnaccepted, IsUnreported};
 ghost use Rattle.pam_report.specs.Finds.{Finds};

@@ -1,7 +1,6 @@
 //! What the commands about paths begin with: the stack of a service, and what is known of the answers of its modules.
 
-ghost use Rattle.std.specs.Prelude.{◌≡◌, IfErr, None, is_some, option_map};
-ghost use Rattle.jiff.specs.Types.{DateTime as CivilTime};
+ghost use Rattle.std.specs.Prelude.{IfErr, None, is_some, option_map};
 ghost use Rattle.pam_conf.specs.Resolution.{resolved};
 ghost use Rattle.pam_report.specs.Answer.{login_at};
 ghost use Rattle.pam_known.specs.Knowledge.{knowledge};

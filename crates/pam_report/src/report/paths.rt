@@ -1,7 +1,6 @@
 //! The `paths` command: a page of the paths through a stack.
 
 ghost use Rattle.std.specs.Prelude.{◌≡◌, ◌≤◌, max};
-ghost use Rattle.jiff.specs.Types.{DateTime as CivilTime};
 ghost use Rattle.pam_paths.specs.Known.{may_answer};
 ghost use Rattle.pam_report.specs.Finds.{Finds};
 ghost use Rattle.pam_report.specs.inner.Known.{FindsOf, WantsForRuns, stack_from};

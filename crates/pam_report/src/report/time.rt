@@ -1,7 +1,6 @@
 //! The `time` command: the line of a time table that denies.
 
 ghost use Rattle.std.specs.Prelude.{◌≡◌, IfErr, Ok, Result, is_some, true, false};
-ghost use Rattle.jiff.specs.Types.{DateTime as CivilTime};
 ghost use Rattle.pam_times.specs.Login.{login_view};
 ghost use Rattle.pam_report.specs.Answer.{login_at, timed, with_rules};
 ghost use Rattle.pam_report.specs.inner.Answer.{FindsTime};

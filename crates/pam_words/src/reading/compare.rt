@@ -1,6 +1,6 @@
 //! Reads a `compare` request from its words.
 
-ghost use Rattle.std.specs.Prelude.{◌≡◌, IfOk, codes, option_map};
+ghost use Rattle.std.specs.Prelude.{◌≡◌, IfOk, option_map};
 ghost use Rattle.clap.specs.Words.{found_of, rows_of};
 ghost use Rattle.pam_words.specs.Request.{compare_task};
 ghost use Rattle.pam_words.specs.Values.{kind_if_named as kind_in, side_in, side_of};

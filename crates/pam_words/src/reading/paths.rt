@@ -1,7 +1,6 @@
 //! Reads a `paths` request from its words.
 
 ghost use Rattle.std.specs.Prelude.{◌≡◌, option_map};
-ghost use Rattle.std.specs.Option.{option_and_then};
 ghost use Rattle.clap.specs.Words.{found_of, rows_of};
 ghost use Rattle.pam_words.specs.Request.{paths_task};
 ghost use Rattle.pam_words.specs.Values.{asks_of, limit_of, one_filter, part_of};

@@ -1,6 +1,6 @@
 //! The answer of each command, with writers that write little, return errors, or fail to flush.
 
-ghost use Rattle.std.specs.Prelude.{◌<◌, ◌-◌, ◌^◌};
+ghost use Rattle.std.specs.Prelude.{◌<◌, ◌-◌};
 
 use crate::tests::files::put;
 use crate::tests::halting::{End, FULL, FailingOnce, Halting, INTERRUPTED, NOTHING};

@@ -1,6 +1,6 @@
 //! Writers that write little, return errors, or fail to flush.
 
-ghost use Rattle.std.specs.Prelude.{◌<◌, ◌-◌, ◌^◌};
+ghost use Rattle.std.specs.Prelude.{◌<◌, ◌-◌};
 
 use crate::tests::halting::{End, FULL, Halting, INTERRUPTED, NOTHING};
 use crate::tests::same::same;

@@ -46,7 +46,7 @@ returns-clause-reached c =
     (subst (λ (x : Option ℕ). Told (modules_of old) node.held.items x c.module-2.result) (c.module.ensures old places.old ∙ ap asked_module places.left)
     (subst (λ (l : List HeldAnswer). Told (modules_of old) l c.module.result c.module-2.result) c.deref.ensures.value
     (subst (λ (n : ℕ). Told n c.deref.result.now c.module.result c.module-2.result) c.requires.naming.old_modules
-    (c.in_ok-after.ensures.told (modules_of new) c.requires.naming.names c.requires.naming.last)))) in
+    (c.in_ok-after.ensures.held (modules_of new) c.requires.naming.names c.requires.naming.last)))) in
     record {
       count = step.count c.requires.reached.count;
       reached = λ k s at. elim (step.added old new node.held.items c.requires.nodes c.requires.held places.old places.new k s at) [

@@ -94,8 +94,8 @@ pub returns-clause-holds : goal.returns-clause-holds
 returns-clause-holds c a h new =
     holds-append a c.loop-index.latest.items _ (c.loop-index.invariant.holds a h new) (holds-drop a c.args.held.now c.kept_from-start.result h)
 
-pub returns-clause-told : goal.returns-clause-told
-returns-clause-told c modules count last =
+pub returns-clause-held : goal.returns-clause-held
+returns-clause-held c modules count last =
     let inv = c.loop-index.invariant in
     let held = c.args.held.now in
     let start = c.kept_from-start.result in

@@ -1,7 +1,7 @@
 use Rattle.std.proofs.Common.{arith, refl}
 use Rattle.std.proofs.lemmas.Bool.{le-leb}
 use Rattle.pam_tables.specs.Network.{v4_mask_of, v6_mask_of}
-use Rattle.pam_tables.proofs.network.is_bits_of.Goals as goal
+use Rattle.pam_tables.proofs.network.is_prefix_length_for.Goals as goal
 
 pub returns-then-count-le32-clause-v4 : goal.returns-then-count-le32-clause-v4
 unfolding v4_mask_of
