@@ -9,7 +9,7 @@ use crate::pair::{Decisions, StackPair};
 use crate::services::ComparedService;
 use crate::stacks::{ComparedStack, StackChange};
 
-/// What is said of a stack in short.
+/// The verdict on a stack.
 #[derive(Clone, Copy, Debug, PartialEq, Eq)]
 pub enum Verdict {
     /// Neither configuration has rules for it.
@@ -71,7 +71,7 @@ fn is_same(one: Verdict, other: Verdict) -> bool
     }
 }
 
-/// How many services pass: those that only the old configuration has, or only the new one.
+/// The number of services that only the old configuration has, if `in_old`; else the number that only the new one has.
 fn only_in(services: &[ComparedService], in_old: bool) -> usize
     ensures { result ≡ count_by (only_in_one in_old) services.now }
 {

@@ -76,7 +76,7 @@ fn kind_number(kind: Kind) -> u64 {
     }
 }
 
-/// The digest of two stacks of a kind. Those with the same items have the same digest, and others seldom.
+/// The digest of two stacks of a kind. Those with the same items have the same digest, and others rarely.
 pub(crate) fn digest_of(stacks: &BothStacks) -> u64 {
     let mut digest = Digest { value: OFFSET };
     digest.add(kind_number(stacks.kind));

@@ -22,6 +22,6 @@ pub struct Sides<'x, 'f> {
     /// What modules are known to answer by a returns file, if one is given.
     pub returns: Option<&'x ReturnTable<'x>>,
     /// What modules are known to answer by their names, whatever the returns file says of them. Of several for one module, the last
-    /// counts. One whose key is no name of a module, or that has no code, tells nothing.
+    /// counts. One whose key is no name of a module, or that has no code, says nothing.
     pub settings: &'x [Setting<'x>],
 }

@@ -16,7 +16,7 @@ use pam_graph::{Goal, Graph, GraphError};
 use pam_paths::{Known, Path};
 use std::alloc::Global;
 
-/// The decision of success.
+/// The goal that the stack decides success.
 pub(crate) fn success() -> Goal
     ensures { result ≡ Decides (success ∷ []) }
 {

@@ -50,6 +50,7 @@ impl Model for Parts {
 }
 
 impl Parts {
+    /// The parts, in the order of their least codes.
     pub fn as_slice(&self) -> &[Part]
         ensures { result.now ≡ self.now }
     {

@@ -251,7 +251,7 @@ fn kept_from(naming: &Naming, held: &[HeldAnswer], name: usize, step: Step) -> u
 }
 
 /// What is held after a step with an answer of this class. The part at the end of the list that stays the same,
-/// mostly all of it, is not copied.
+/// usually all of it, is not copied.
 pub(crate) fn held_after(
     alloc: Global,
     naming: &Naming,

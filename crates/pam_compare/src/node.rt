@@ -174,7 +174,7 @@ pub(crate) fn class_of(
     class
 }
 
-/// The places after the answer `code`, with nothing held.
+/// The places of the old stack and of the new one after the answer `code`.
 pub(crate) fn places_after(pair: &Pair<'_>, node: &Node, turn: Turn, code: Code) -> (Place, Place)
     requires old { IsPlaceOf pair.now.old.now node.now.old }
     requires new { IsPlaceOf pair.now.new.now node.now.new }

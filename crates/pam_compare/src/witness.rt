@@ -119,7 +119,7 @@ fn new_answers(
     Ok(codes)
 }
 
-/// The decision of a stack whose modules answer so.
+/// The decision of a stack whose modules answer these codes.
 fn decided(program: &Program, codes: &[Code]) -> Decision
     requires { length codes.now ≡ modules_of program.now }
     ensures { result ≡ decision_in (runs_of program.now) (answers_of codes.now) }

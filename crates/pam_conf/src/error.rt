@@ -14,7 +14,7 @@ pub enum FaultKind {
     /// E2: a line ends before its kind, control or path.
     #[error("the kind, the control or the path is missing")]
     MissingField,
-    /// E3
+    /// E3: the kind is not one of the four.
     #[error("not one of auth, account, password and session")]
     BadKind,
     /// E4 to E8. An open bracket anywhere in the line is E8.
@@ -72,7 +72,7 @@ impl<T: Drop> From<AllocFailed<T>> for FaultKind {
     }
 }
 
-/// The first fault of a file, and its line.
+/// A fault of a file, and its line.
 #[derive(Clone, Copy, Debug, PartialEq, Eq, Error)]
 #[error("line {line}: {kind}")]
 pub struct RuleFault {

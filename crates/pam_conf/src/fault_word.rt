@@ -101,7 +101,7 @@ fn target_text<'a>(
     Ok(Some(without_folder(text_of(word, inside)?)))
 }
 
-/// The control, if it is none at all.
+/// The control, if the whole of it is the wrong word.
 fn control_text(error: ControlError, words: Words<'_>) -> Option<&[u8]>
     ensures { option_map (λ w. w.now) result ≡ control_text error (words_to_come words.entry) }
 {

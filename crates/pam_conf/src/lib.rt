@@ -1,5 +1,5 @@
 //! Reads the rules of PAM configuration files: pam.conf(5). Resolves the stack of a service by following the includes
-//! and substacks of its rules. Or surveys it: goes on after each fault, and tells all of them.
+//! and substacks of its rules. Or surveys it: goes on after each fault, and reports all of them.
 #![tactic(auto)]
 
 mod call;

@@ -26,7 +26,7 @@ pub struct Survey {
     /// The stack, as far as the rules without a fault give it: a target with a fault adds nothing. `None` if a limit ends the
     /// walk, or if neither the service nor `other` has rules.
     pub stack: Option<Stack>,
-    /// The faults of the walk in order; those of a file that is reached twice are told twice. The first module or follow past its
+    /// The faults of the walk in order; a file that is reached twice gives its faults twice. The first module or follow past its
     /// limit is the last of them: the walk ends there.
     pub faults: Vec<ConfError>,
     /// The positions of the files that the walk reached, in the order in which it came to them, each once.
@@ -182,7 +182,7 @@ impl<'a> RuleFiles<'a> {
     }
 
     /// Surveys `service`, in lowercase, for `kind`: pam.conf(5). Like `resolve`, but goes on after each fault, and takes of each
-    /// file the rules of the lines without a fault; `faults` tells the others. Takes time linear in the rules that it walks.
+    /// file the rules of the lines without a fault; `faults` has the faults of the others. Takes time linear in the rules that it walks.
     #[tactic(auto, unfolding(crate::specs::Survey::surveyed))]
     pub fn survey(&self, alloc: Global, service: &[u8], kind: Kind) -> Result<Survey, AllocError>
         ensures { IfOk result (λ s. survey_text s ≡ surveyed self.now service.now kind) }

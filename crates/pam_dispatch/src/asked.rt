@@ -19,7 +19,7 @@ pub struct Situation {
     pub(crate) items_after: usize,
 }
 
-/// The status as far as it tells answers apart, for a module asked in `state`, whose list was entered in `entry`.
+/// The status as far as answers differ by it, for a module asked in `state`, whose list was entered in `entry`.
 #[inline(always)]
 fn status_told(state: State, entry: State) -> Code
     ensures { result ≡ status_told state.impression entry.impression state.status }

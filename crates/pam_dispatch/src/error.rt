@@ -14,7 +14,7 @@ impl<T: Drop> From<AllocFailed<T>> for Memory {
     }
 }
 
-/// The number of codes is not that of the modules.
+/// The number of codes differs from the number of modules.
 #[derive(Clone, Copy, Debug, PartialEq, Eq, Error)]
 #[error("the stack has {modules} modules")]
 pub struct WrongCount {

@@ -10,7 +10,7 @@ use crate::error::Memory;
 use crate::flat_item::FlatItem;
 use pam_conf::Item;
 
-/// Appends `items`, nested `level` deep, to `items`.
+/// Appends `items`, nested `level` deep, to `flat_items`.
 pub(crate) fn flatten(
     items: &[Item],
     level: usize,

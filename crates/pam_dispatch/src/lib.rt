@@ -1,4 +1,4 @@
-//! The dispatcher: runs a stack on the return codes of its modules, as pam.conf(5) describes. Tells which module is
+//! The dispatcher: runs a stack on the return codes of its modules, as pam.conf(5) describes. Says which module is
 //! asked next, and at the end what the stack decides.
 #![tactic(auto)]
 

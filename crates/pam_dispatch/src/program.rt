@@ -37,15 +37,15 @@ use std::marker::Model;
 #[derive(Debug, Drop)]
 pub struct Program {
     pub(crate) flat_items: Vec<FlatItem>,
-    /// The indices of the modules in `items`, in the order of their numbers.
+    /// The indices of the modules in `flat_items`, in the order of their numbers.
     positions: Vec<usize>,
     /// The parts of the modules' controls, in the same order.
     parts: Vec<Parts>,
-    /// The length of the stretch of items on one level, from each index in `items` on, the last index first.
+    /// The length of the stretch of items on one level, from each index in `flat_items` on, the last index first.
     stretches: Vec<usize>,
-    /// The index in `items` from which on no answer changes a failed stack.
+    /// The index in `flat_items` from which on no answer changes a failed stack.
     harmless_from: usize,
-    /// The levels of the lists whose entry states a reset can still read, from each index in `items` on, the last index first.
+    /// The levels of the lists whose entry states a reset can still read, from each index in `flat_items` on, the last index first.
     pub(crate) read_levels: Vec<ReadLevels>,
 }
 

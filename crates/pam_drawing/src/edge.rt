@@ -16,7 +16,7 @@ use pam_codes::{CODES, Code, CodeSet, Device, Out, Piece};
 use pam_graph::{Edge, Graph, Node, Target};
 use std::io::Write;
 
-/// Returns the end that a target is; none for a node.
+/// Returns the end that a target is, as a set; empty for a node.
 fn end_of(target: Target) -> CodeSet
     ensures { result ≡ codes_where (λ code. is_end code target) }
 {

@@ -62,7 +62,7 @@ fn put_characters<W: Write>(
     Ok(())
 }
 
-/// Returns the characters of printable ASCII that show a byte: itself, `\\\\` for a backslash, or `\xNN`.
+/// Returns the characters of printable ASCII that show a byte: itself, `\\` for a backslash, or `\xNN`.
 #[tactic(auto, unfolding(crate::specs::Labels::ascii_byte))]
 pub fn ascii_byte(byte: u8) -> ArrayVec<u8, 4>
     ensures { result.items ≡ ascii_byte byte }

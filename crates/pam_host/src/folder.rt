@@ -38,7 +38,7 @@ fn problem_of_name(name: &[u8]) -> Option<Problem>
     }
 }
 
-/// Finds what is wrong with the name of the file at a position.
+/// Adds what is wrong with the name of the file at a position.
 fn put_name(table: &mut Table, name: &[u8], file: usize) -> Result<(), AllocError>
     ensures { OnOk result (Puts (HasNameProblem name.now file) (with_met None) table.old table.new) }
 {
@@ -53,7 +53,7 @@ fn put_name(table: &mut Table, name: &[u8], file: usize) -> Result<(), AllocErro
     put(table, spot, None)
 }
 
-/// Finds what is wrong with the names of files.
+/// Adds what is wrong with the names of files.
 fn put_names(table: &mut Table, files: &Files) -> Result<(), AllocError>
     ensures { OnOk result (Puts (IsNameProblem files.now (length files.now.entries)) (with_met None) table.old table.new) }
 {
@@ -64,7 +64,7 @@ fn put_names(table: &mut Table, files: &Files) -> Result<(), AllocError>
     Ok(())
 }
 
-/// Finds that there is no `other`: S6.
+/// Adds S6, if there is no `other`.
 fn put_other(table: &mut Table, files: &Files) -> Result<(), AllocError>
     ensures { OnOk result (Puts (LacksOther files.now) (with_met None) table.old table.new) }
 {
@@ -79,7 +79,7 @@ fn put_other(table: &mut Table, files: &Files) -> Result<(), AllocError>
     put(table, spot, None)
 }
 
-/// Finds what is wrong with a folder itself.
+/// Adds what is wrong with a folder itself.
 fn put_whole(table: &mut Table, files: &Files) -> Result<(), AllocError>
     ensures { OnOk result (Puts (λ spot. LacksOther files.now spot ⊎ IsNameProblem files.now (length files.now.entries) spot)
         (with_met None) table.old table.new) }
@@ -89,7 +89,7 @@ fn put_whole(table: &mut Table, files: &Files) -> Result<(), AllocError>
     Ok(())
 }
 
-/// Finds what is wrong with a folder itself, where no service is named.
+/// Adds what is wrong with a folder itself, where no service is named.
 pub(crate) fn put_folder(table: &mut Table, files: &Files, named: &Texts) -> Result<(), AllocError>
     ensures { OnOk result (Puts (λ spot. is_of_folder files.now named.now spot ≡ true) (with_met None) table.old table.new) }
 {

@@ -68,7 +68,7 @@ fn spots_of_file(
     Ok(spots)
 }
 
-/// Finds the problems of the file at a position, which these stacks read.
+/// Adds the problems of the file at a position, which these stacks read.
 fn put_file(
     alloc: Global,
     files: &Files,
@@ -88,7 +88,7 @@ fn put_file(
     Ok(())
 }
 
-/// Finds the problems of the files that stacks read, where `readers` has those stacks.
+/// Adds the problems of the files that stacks read, where `readers` has those stacks.
 pub(crate) fn put_files(
     alloc: Global,
     files: &Files,

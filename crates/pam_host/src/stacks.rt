@@ -89,7 +89,7 @@ pub fn is_sound(rules: &RuleFiles<'_>, survey: &Survey) -> bool
     true
 }
 
-/// Of auth and account the other one.
+/// The other one of auth and account; `None` for the other kinds.
 fn partner(kind: Kind) -> Option<Kind>
     ensures { result ≡ partner kind }
 {

@@ -23,7 +23,7 @@ fn met_at(table: &Table, spot: Spot) -> Option<Met>
     }
 }
 
-/// Finds a problem that these stacks meet.
+/// Adds a problem that these stacks meet.
 pub(crate) fn put(table: &mut Table, spot: Spot, met: Option<Met>) -> Result<(), AllocError>
     ensures { OnOk result (Puts (λ other. other ≡ spot) (with_met met) table.old table.new) }
 {
@@ -35,7 +35,7 @@ pub(crate) fn put(table: &mut Table, spot: Spot, met: Option<Met>) -> Result<(),
     Ok(())
 }
 
-/// Finds a problem that one more stack meets.
+/// Adds a problem that one more stack meets.
 fn put_stack(table: &mut Table, spot: Spot, service: usize, kind: Kind) -> Result<(), AllocError>
     ensures { OnOk result (Puts (λ other. other ≡ spot) (with_stack service kind) table.old table.new) }
 {
@@ -43,7 +43,7 @@ fn put_stack(table: &mut Table, spot: Spot, service: usize, kind: Kind) -> Resul
     put(table, spot, Some(met))
 }
 
-/// Finds the problems that these stacks meet.
+/// Adds the problems that these stacks meet.
 pub(crate) fn put_all(table: &mut Table, spots: &[Spot], met: Option<Met>) -> Result<(), AllocError>
     ensures { OnOk result (Puts (λ spot. Member spot spots.now) (with_met met) table.old table.new) }
 {
@@ -69,7 +69,7 @@ pub(crate) fn remove_all(table: &mut Table, spots: &[Spot])
     }
 }
 
-/// Finds the problems that one more stack meets.
+/// Adds the problems that one more stack meets.
 pub(crate) fn put_stack_at_all(
     table: &mut Table,
     spots: &[Spot],

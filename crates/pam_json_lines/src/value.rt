@@ -116,6 +116,7 @@ impl<'x, V: Written> Member<'x, V> {
         }
     }
 
+    /// The value `null`.
     pub fn null(name: &'x str) -> Member<'x, V>
         ensures { member_of V.value result ≡ (name.now, null) }
     {
@@ -125,6 +126,7 @@ impl<'x, V: Written> Member<'x, V> {
         }
     }
 
+    /// `true` or `false`.
     pub fn boolean(name: &'x str, value: bool) -> Member<'x, V>
         ensures { member_of V.value result ≡ (name.now, json_boolean value) }
     {
@@ -134,6 +136,7 @@ impl<'x, V: Written> Member<'x, V> {
         }
     }
 
+    /// A number, in decimal digits.
     pub fn number(name: &'x str, number: u64) -> Member<'x, V>
         ensures { member_of V.value result ≡ (name.now, json_number (unsigned number)) }
     {

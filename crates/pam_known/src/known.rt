@@ -68,14 +68,14 @@ fn groups_read<'a>(
     }
 }
 
-/// The code that the access table tells under some options.
+/// The code that the access table gives under some options.
 #[derive(Drop)]
 struct AccessCode<'s> {
     options: AccessOptions<'s>,
     code: Code,
 }
 
-/// The codes that tables have told so far, so that a table is not asked the same question twice.
+/// The codes that tables have given so far, so that a table is not asked the same question twice.
 #[derive(Drop)]
 struct Kept<'s> {
     by_time: Option<Code>,
@@ -93,7 +93,7 @@ struct Lookup<'x, 'l, 't> {
 }
 
 impl Lookup<'_, '_, '_> {
-    /// Returns the code that the time table tells. It is the same for all modules, so it is kept.
+    /// Returns the code that the time table gives. It is the same for all modules, so it is kept.
     fn time_answer(
         &self,
         alloc: Global,
@@ -129,7 +129,7 @@ impl Lookup<'_, '_, '_> {
         None
     }
 
-    /// Returns the code that the access table tells. It is the same for equal options, so it is kept for them.
+    /// Returns the code that the access table gives. It is the same for equal options, so it is kept for them.
     #[tactic(auto, unfolding(crate::specs::Answers::access_told))]
     fn access_answer<'s>(
         &self,
@@ -219,7 +219,7 @@ impl Lookup<'_, '_, '_> {
         Ok(known)
     }
 
-    /// Whether the module reads a table, which then tells its code.
+    /// Whether the module reads a table, which then gives its code.
     #[tactic(auto, unfolding(crate::specs::Answers::table_answer))]
     fn is_told(&self, module: &Module) -> bool
         ensures { result ≡ is_some (told_of self.now (module_text «module».now)) }

@@ -1,5 +1,5 @@
 //! The codes that the modules of a stack may return for a login, as far as they are known.
-//! Access and time tables tell the codes of the modules that read them, and a returns file those of the others.
+//! Access and time tables give the codes of the modules that read them, and a returns file the codes of the others.
 #![tactic(auto)]
 
 mod answers;

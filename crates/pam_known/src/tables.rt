@@ -10,7 +10,7 @@ pub struct TimedTable<'a> {
     pub moment: DateTime,
 }
 
-/// What tells the codes of modules: the contents of files, and which modules are there. What is `None` tells nothing.
+/// What gives the codes of modules: the contents of files, and which modules are there. What is `None` gives nothing.
 #[derive(Clone, Copy)]
 pub struct Tables<'a> {
     /// The paths at which a module is there, as rules write them.

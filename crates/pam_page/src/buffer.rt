@@ -7,7 +7,7 @@ use std::io;
 use std::io::Write;
 use std::marker::Model;
 
-/// The number of bytes that are filled with zeros at once. A text seldom needs all of the capacity.
+/// The number of bytes that are filled with zeros at once. A text rarely needs all of the capacity.
 const FILLED_BYTES: usize = 4096;
 
 /// A writer into memory that is allocated once. It never grows.

@@ -101,7 +101,7 @@ impl ClassText {
     }
 }
 
-/// The texts of three classes. Modules with one control seldom have others of more than one code.
+/// The texts of three classes. Modules with one control rarely have others of more than one code.
 #[derive(Drop)]
 pub(crate) struct ClassTexts {
     last: ClassText,

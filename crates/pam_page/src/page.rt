@@ -59,7 +59,7 @@ impl PageLines {
     }
 
     /// Writes the lines, and then adds the line of a path.
-    // Not inlined, so that `add`, which seldom comes here, stays short enough to be.
+    // Not inlined, so that `add`, which rarely comes here, stays short enough to be.
     #[cold]
     #[inline(never)]
     fn add_after<W: Write>(&mut self, path: &Path, out: &mut Out<W>) -> Result<(), Device>

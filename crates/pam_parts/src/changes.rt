@@ -1,4 +1,4 @@
-//! What a comparison tells of services, stacks and modules.
+//! What a comparison says of services, stacks and modules.
 
 ghost use Rattle.std.specs.Prelude.{◌≡◌, option_map};
 ghost use Rattle.pam_report.specs.Fault.{file_at};

@@ -1,4 +1,4 @@
-//! What a check tells of services, files and numbers of findings.
+//! What a check says of services, files and numbers of findings.
 
 ghost use Rattle.std.specs.Prelude.{◌≡◌, ◌+◌, [], IfOk, map};
 ghost use Rattle.std.specs.Option.{option_map, option_map_or};

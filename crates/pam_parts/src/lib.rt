@@ -1,4 +1,4 @@
-//! Parts of replies that each form of an answer tells, and the walks over their lines.
+//! Parts of replies that all forms of an answer show, and the walks over their lines.
 #![tactic(auto)]
 
 mod changes;

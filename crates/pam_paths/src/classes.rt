@@ -1,4 +1,4 @@
-//! Classes of codes that a run does not tell apart, computed part by part of a control.
+//! Classes of codes that a run treats alike, computed part by part of a control.
 
 ghost use Rattle.std.specs.Prelude.{◌≡◌, ◌<◌, ◌≤◌, ◌==◌, ◌&&◌, ◌||◌, ℕ, All, IfNone, IfSome, IsTrue, Some, false, if◌then◌else◌, length, nat_le, slice_get};
 ghost use Rattle.std.specs.List.{list_any};
@@ -93,7 +93,7 @@ fn codes_alike(asked: &Question<'_>, part: &Part, outcome: &Outcome) -> CodeSet
     }
 }
 
-/// The codes of `part` that lead to `outcome`, if none in `seen` does: a part without other codes is passed over.
+/// The codes of `part` that lead to `outcome`, if none in `seen` does: a part without other codes is skipped.
 fn unseen_alike(asked: &Question<'_>, part: &Part, seen: CodeSet, outcome: &Outcome) -> CodeSet
     requires { IsPart asked.now.control part.now }
     ensures { ((d : ℕ) → d < CODES → IsTrue (is_in d seen) → same_outcome outcome.now (outcome_of asked.now d) ≡ false)
@@ -118,7 +118,7 @@ fn class_at(asked: &Question<'_>, parts: &[Part], seen: CodeSet, outcome: &Outco
     class
 }
 
-/// The class of `code` for the module asked at `place`. Never inlined: it is seldom wanted, and `Classes::class_of` is
+/// The class of `code` for the module asked at `place`. Never inlined: it is rarely wanted, and `Classes::class_of` is
 /// inlined.
 #[inline(never)]
 fn class_anew(program: &Program, place: &Place, module_number: usize, code: Code) -> CodeSet

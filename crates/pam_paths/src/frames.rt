@@ -196,7 +196,7 @@ impl BoundedList<Frame> {
     }
 }
 
-/// Makes the first of `steps` those of `frames`. The first `shared` of them, and those after all, stay.
+/// Makes the first steps of `steps` the steps of `frames`. The first `shared` stay, and so do the steps after the frames.
 fn rewrite(steps: &mut BoundedList<PathStep>, frames: &[Frame], shared: usize)
     requires room { length frames.now ≤ length steps.old.items }
     requires within { shared ≤ length frames.now }

@@ -55,7 +55,7 @@ pub(crate) fn is_asked(nodes: &[Node], number: usize) -> bool
     false
 }
 
-/// Returns what is told of a module that no run asks.
+/// Returns what is shown of a module that no run asks.
 fn asked_row(nodes: &[Node], number: usize) -> &'static [u8]
     ensures { result.now ≡ asked_row nodes.now number }
 {

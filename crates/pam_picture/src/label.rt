@@ -10,7 +10,7 @@ use pam_codes::{CODES, Code, CodeSet, Device, Out, Piece};
 use pam_drawing::name_of;
 use std::io::Write;
 
-/// The least number of codes of a class that is told as `else`. No two classes of a node have as many.
+/// The least number of codes of a class that is shown as `else`. No two classes of a node have as many.
 pub(crate) const MOST: usize = 16;
 
 /// The most codes of a class whose label is its text.
@@ -30,7 +30,7 @@ pub(crate) fn is_told(class: CodeSet) -> bool
     class.len() <= FEW
 }
 
-/// Whether a class is told in a note below the picture.
+/// Whether a class is shown in a note below the picture.
 pub(crate) fn is_noted(class: CodeSet) -> bool
     ensures { result ≡ has_note class }
 {

@@ -199,7 +199,7 @@ fn lines_170(alloc: Global, source: Source<'_>) -> Result<Option<Vec<LogicalLine
     Ok(assembly.finish())
 }
 
-/// The logical lines of a file by a release, without those that it passes over; `None` where it refuses the file.
+/// The logical lines of a file by a release, without those that it skips; `None` where it refuses the file.
 pub(crate) fn logical_lines(
     alloc: Global,
     release: Release,

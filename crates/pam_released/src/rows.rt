@@ -19,7 +19,7 @@ use crate::reader::Reader;
 use pam_conf::{Words, text_of};
 use std::alloc::AllocError;
 
-/// The bytes of a logical line that 1.5.2 has room for, with the NUL byte after them.
+/// The size of the buffer of 1.5.2 for a logical line, in bytes, with the NUL byte at its end.
 const ROOM: usize = 1024;
 
 /// L1: whether `line` has a carriage return before its comment.

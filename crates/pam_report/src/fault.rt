@@ -51,7 +51,7 @@ pub enum Fault {
     /// The moment is invalid.
     #[error(transparent)]
     Moment(MomentError),
-    /// The number of codes is not that of modules.
+    /// The number of codes differs from the number of modules.
     #[error(transparent)]
     Count(WrongCount),
     /// The graph of the run has more nodes than `pam_graph` allows.
@@ -66,7 +66,7 @@ pub enum Fault {
     /// No fault or finding has the number that is to be explained.
     #[error("there is no such number")]
     NoSuchNumber,
-    /// The cursor is that of no path of the stack.
+    /// No path of the stack has the cursor.
     #[error(transparent)]
     Cursor(CursorError),
     /// A write failed.

@@ -92,8 +92,8 @@ pub struct SideInputs {
 /// The contents of the files that a request names, and of the tables of a root. Where neither gives a file, it is `None`.
 #[derive(Drop)]
 pub enum Inputs {
-    /// For `check`. The first path is that of the whole configuration, and each other one that under which a file was
-    /// read, in the order of the files.
+    /// For `check`. The first path belongs to the whole configuration; under each other one a file was read, in the order of
+    /// the files.
     Host {
         files: Files,
         paths: Texts,

@@ -59,7 +59,7 @@ use std::alloc::Global;
 use time::{answer_time, given_moment, moment_of};
 pub use trace::{AskedModule, Trace, path_at};
 
-/// The outcome of an answer.
+/// How a request was answered, which gives the exit status.
 #[derive(Clone, Copy, Debug, PartialEq, Eq)]
 pub enum Status {
     /// Answered. A decision is `success` or granted.

@@ -38,7 +38,7 @@ fn put_all(found: &mut Found, findings: &[TableFinding]) -> Result<(), AllocErro
     Ok(())
 }
 
-/// Finds the problems of a table that is needed.
+/// Adds the problems of a table that is needed.
 fn put_need(
     alloc: Global,
     found: &mut Found,
@@ -51,7 +51,7 @@ fn put_need(
     put_all(found, &problems)
 }
 
-/// Finds the problems of the tables that are needed.
+/// Adds the problems of the tables that are needed.
 pub(crate) fn put_needs(
     alloc: Global,
     found: &mut Found,

@@ -14,7 +14,7 @@ use pam_text::Texts;
 use std::alloc::{AllocError, Global};
 use std::collections::BTreeMap;
 
-/// Finds the problems of the tables that these stacks need. Where no table is given, no stack is looked at.
+/// Adds the problems of the tables that these stacks need. Where no table is given, no stack is looked at.
 fn put_problems(
     alloc: Global,
     found: &mut Found,

@@ -56,8 +56,7 @@ fn faults_of_access(
     Ok(faults)
 }
 
-/// Returns all faults of an access table: that of the table as a whole, or else those of its lines, from the top. A line has one
-/// at most, its first.
+/// Returns all faults of an access table: the one of the table as a whole, or else the first of each line, from the top.
 #[tactic(auto, unfolding(crate::specs::Faults::access_faults))]
 pub fn access_faults(
     alloc: Global,
@@ -85,7 +84,7 @@ fn faults_of_groups(alloc: Global, source: Source<'_>) -> Result<Vec<TableError>
     Ok(faults)
 }
 
-/// Returns all faults of a group file: that of the file as a whole, or else those of its lines, from the top.
+/// Returns all faults of a group file: the one of the file as a whole, or else the first of each line, from the top.
 #[tactic(auto, unfolding(crate::specs::Faults::group_faults))]
 pub fn group_faults(alloc: Global, bytes: &[u8]) -> Result<Vec<TableError>, AllocError>
     ensures { IfOk result (λ faults. faults.items ≡ group_faults bytes.now) }

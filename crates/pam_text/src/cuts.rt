@@ -15,6 +15,7 @@ pub struct ByteSet<'s> {
 }
 
 impl<'s> ByteSet<'s> {
+    /// The set of these bytes.
     pub fn of(bytes: &'s [u8]) -> ByteSet<'s>
         ensures { result.bytes.now ≡ bytes.now }
     {
@@ -25,6 +26,7 @@ impl<'s> ByteSet<'s> {
         ByteSet { bytes, marks }
     }
 
+    /// Whether the set has `byte`.
     #[inline(always)]
     pub fn has(&self, byte: u8) -> bool
         ensures { result ≡ is_among self.now.bytes.now byte }

@@ -27,6 +27,7 @@ impl<W: Write> Out<W> {
     ghost use Rattle.std.specs.Prelude.{◌≡◌, decimal, []};
     ghost use Rattle.pam_text.specs.Out.{Writes, WritesAndFlushes};
 
+    /// A writer over `inner`, with all counts at 0.
     pub fn new(inner: W) -> Self
         ensures inner { result.inner ≡ inner }
         ensures taken { result.taken ≡ 0 }

@@ -24,7 +24,7 @@ impl<W: Write> Out<W> {
         }
     }
 
-    /// Writes `pieces` in order, like `put`.
+    /// Writes `pieces` in order, as `put` writes bytes. Adds no line feed.
     pub fn put_line(&mut self, pieces: &[Piece<'_>]) -> Result<(), Device>
         ensures { Writes W.contents self.old self.new result (line_text pieces.now) }
     {

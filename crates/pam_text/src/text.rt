@@ -15,7 +15,7 @@ use std::alloc::AllocError;
 
 /// The number of bytes that are looked at one by one before a search by vectors, which costs more than a look at a few:
 /// most empty comments and most pieces between joints end within these. Lines with words and comments after words are
-/// mostly longer.
+/// usually longer.
 const NEAR_BYTES: usize = 4;
 
 /// The remaining text of a file, as pam.conf(5) reads it, line by line.
@@ -99,7 +99,7 @@ impl<'a> Text<'a> {
         }
     }
 
-    /// Passes over blank lines and comments, and over the blanks that the next line with another byte begins with.
+    /// Skips blank lines and comments, and the blanks with which the next line with another byte begins.
     // Not inlined: inside its callers each byte takes more instructions.
     #[inline(never)]
     pub fn skip_blanks(&mut self)

@@ -61,8 +61,7 @@ fn faults_of_lines(alloc: Global, source: Source<'_>) -> Result<Vec<TimeError>, 
     Ok(faults)
 }
 
-/// Returns all faults of a time table: that of the table as a whole, or else those of its lines, from the top. A line has one at
-/// most, its first.
+/// Returns all faults of a time table: the one of the table as a whole, or else the first of each line, from the top.
 #[tactic(auto, unfolding(crate::specs::Faults::time_faults))]
 pub fn time_faults(alloc: Global, bytes: &[u8]) -> Result<Vec<TimeError>, AllocError>
     ensures { IfOk result (λ faults. faults.items ≡ time_faults bytes.now) }

@@ -55,7 +55,7 @@ fn token_len(bytes: &[u8]) -> usize
     bytes.iter().take_while(|b| is_token_byte(**b)).count()
 }
 
-/// Most bytes are above all blanks.
+/// Whether a byte is a blank. Most bytes are above all blanks, so one comparison is enough for them.
 #[inline(always)]
 fn is_blank(byte: u8) -> bool
     ensures { result ≡ is_blank byte }

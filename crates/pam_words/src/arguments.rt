@@ -26,7 +26,7 @@ pub(crate) enum ArgForm {
     Flag,
 }
 
-/// What `clap` is told of an argument.
+/// What `clap` is given for an argument.
 #[derive(Clone, Copy)]
 pub(crate) struct ArgRow {
     pub(crate) form: ArgForm,

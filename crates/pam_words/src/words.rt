@@ -163,7 +163,7 @@ fn one_command<'a>(alloc: Global, row: &CommandRow) -> Result<Command<'a>, Alloc
     bare_command(alloc).subcommand(command_of(alloc, row)?)
 }
 
-/// Returns the command line for words that begin with this name, after that of the program. If a command has the name, there is no
+/// Returns the command line for words in which this name follows the program's name. If a command has the name, there is no
 /// other: `clap` reads such words by that command alone. If none has it, or there is no word, all are there.
 pub fn command_for<'a>(alloc: Global, name: Option<&str>) -> Result<Command<'a>, AllocError>
     ensures { IsBuilt result (app_for (option_copied name.entry)) }

@@ -1,4 +1,4 @@
-//! A stack that is refused, and one that was told before.
+//! A stack that is refused, and one that was shown before.
 
 ghost use Rattle.pam_codes.specs.Out.{Writes};
 ghost use Rattle.pam_json_lines.specs.Line.{line};

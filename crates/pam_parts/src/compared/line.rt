@@ -42,7 +42,7 @@ pub enum CompareLine<'x> {
     OnlyInNew(&'x [u8]),
     /// A stack that some configuration refuses.
     Refused(RefusedStack<'x>),
-    /// A stack with the same items as one that was told before.
+    /// A stack with the same items as one that was shown before.
     As { head: Head<'x>, first: Head<'x> },
     /// Matched modules with other arguments.
     Arguments(DifferingStack<'x>, MatchedPair),

@@ -1,4 +1,4 @@
-//! The classes that are told below a picture.
+//! The classes that are shown below a picture.
 
 ghost use Rattle.std.specs.Prelude.{◌≡◌, IfOk, OnOk, length, map};
 ghost use Rattle.std.specs.List.{range_with_len};

@@ -28,7 +28,7 @@ pub struct Route {
     pub turn: Bend,
     /// To the height of the target.
     pub landing: Bend,
-    /// The number of the note with its answers; 0 if its label tells them.
+    /// The number of the note with its answers; 0 if its label has them.
     pub note: usize,
 }
 
@@ -64,7 +64,7 @@ pub struct EndPlace {
     pub width: usize,
 }
 
-/// A class that is told below the picture, with its number, and the height of its line.
+/// A class that is shown below the picture, with its number, and the height of its line.
 #[derive(Clone, Copy, Debug, PartialEq, Eq)]
 pub struct Note {
     pub number: usize,

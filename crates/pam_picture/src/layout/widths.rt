@@ -188,6 +188,7 @@ pub(super) fn gutter_after(gutters: &[Gutter], column: usize, first: usize) -> G
 
 /// Returns the width of the names of lanes.
 pub(super) fn lanes_width(grid: &Grid) -> usize {
+    // The length of "positive" and "negative", the longest names of impressions.
     let mut most: usize = 8;
     for state in &grid.lanes.states {
         most = name_of(state.status).len().max(most);

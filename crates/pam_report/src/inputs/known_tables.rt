@@ -1,4 +1,4 @@
-//! What tells the codes of modules, from the inputs of the commands about paths.
+//! What gives the codes of modules, from the inputs of the commands about paths.
 
 ghost use Rattle.std.specs.Prelude.{◌≡◌, None, option_map};
 ghost use Rattle.pam_known.specs.Tables.{tables_view, timed_view};
@@ -46,7 +46,7 @@ fn copied<'a>(time: &Option<TimedTable<'a>>) -> Option<TimedTable<'a>>
     }
 }
 
-/// Returns the tables of the commands about paths, with this time table, and which modules are there: what tells the codes of modules.
+/// Returns the tables of the commands about paths, with this time table, and which modules are there: what gives the codes of modules.
 pub(crate) fn tables_with<'a>(inputs: &'a Inputs, time: &Option<TimedTable<'a>>) -> Tables<'a>
     ensures { tables_view result ≡ with_time (tables_in inputs.now None) (option_map timed_view time.now) }
 {

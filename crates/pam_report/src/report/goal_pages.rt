@@ -43,7 +43,7 @@ struct WalksPage<'a, R> {
     renderer: &'a R,
 }
 
-/// Returns the cursor of a text, if it is that of a path of the stack.
+/// Returns the cursor that a text names, if a path of the stack has it.
 // Never inlined, as the next one: the explorer, which only judges the cursor, is gone before walks are made.
 #[inline(never)]
 fn cursor_after(paging: &Paging<'_>, text: &str) -> Result<Cursor, Fault>

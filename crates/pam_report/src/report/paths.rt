@@ -25,6 +25,7 @@ use pam_paths::{Cursor, Explorer, Known};
 use pam_words::{PagePart, PathFilter};
 use std::alloc::Global;
 
+/// A page that is asked for: the stack, the most paths, the part of the listing, and the filter.
 #[derive(Clone, Copy)]
 pub(super) struct PageRequest<'a> {
     pub stack: StackRequest<'a>,
@@ -55,18 +56,21 @@ pub struct PathsPage<'a> {
 }
 
 impl<'a> PathsPage<'a> {
+    /// The service, as it was given.
     pub fn service(&self) -> &'a str
         ensures { result.now ≡ (page_value self.now).service }
     {
         self.service
     }
 
+    /// The kind of the stack.
     pub fn kind(&self) -> Kind
         ensures { result ≡ (page_value self.now).kind }
     {
         self.kind
     }
 
+    /// The stack whose paths are listed.
     pub fn stack(&self) -> &Stack
         ensures { result.now ≡ (page_value self.now).items }
     {
@@ -82,7 +86,7 @@ impl<'a> PathsPage<'a> {
     }
 
     /// Opens the listing from which the page is taken, the first of its paths up to the limit, and lets the renderer write it.
-    /// Returns `Cursor` for a cursor that is that of no path of the stack, and `Memory` if an allocation of the listing fails; then
+    /// Returns `Cursor` if no path of the stack has the cursor, and `Memory` if an allocation of the listing fails; then
     /// nothing is written.
     // The listing, of 31 kB, stays in the frame in which it is opened: to return it takes room for it in each caller too.
     pub fn render<T, R: PageRenderer<T>>(
