@@ -42,7 +42,7 @@ no_line_feed_in_access_table =
           ++ codes "$ printf '%s' '-:ALL:ALL' >access.conf\n"
           ++ codes "$ pamcheck check --conf pam.conf --access access.conf";
       linux_pam =
-          codes "1.5.2 and 1.7.0 pass over it. A last line that keeps out all others\n"
+          codes "1.5.2 and 1.7.0 skip it. A last line that keeps out all others\n"
           ++ codes "then keeps out nobody.";
       mending = end_line;
     }
@@ -62,7 +62,7 @@ leading_blank =
           ++ codes " -:ALL:ALL\n"
           ++ codes "$ pamcheck check --conf pam.conf --access access.conf";
       linux_pam =
-          codes "1.5.2 and 1.7.0 pass over it, so a line that was to keep somebody\n"
+          codes "1.5.2 and 1.7.0 skip it, so a line that was to keep somebody\n"
           ++ codes "out lets them in.";
       mending =
           codes "remove the blanks before the rule.";
@@ -100,12 +100,12 @@ empty_separator =
       level = Warning;
       meaning =
           codes "A rule with pam_access has an argument fieldsep= or listsep= without a value.\n"
-          ++ codes "The separators are those without the argument here.";
+          ++ codes "pamcheck then uses the default ones.";
       example =
           codes "# login\n"
           ++ codes "account required pam_access.so listsep=";
       linux_pam =
-          codes "1.5.2 and 1.7.0 then have none: they pass over every line, or take\n"
+          codes "1.5.2 and 1.7.0 then have none: they skip every line, or take\n"
           ++ codes "each list for one name, and let in whom a line was to keep out.";
       mending =
           codes "give the argument a value, or remove it.";
@@ -118,8 +118,8 @@ mask_digits =
       name = codes "MaskDigits";
       level = Warning;
       meaning =
-          codes "A mask of an access table has several digits, and the first is 0. It is a\n"
-          ++ codes "decimal number here.";
+          codes "A mask of an access table has several digits, and the first is 0.\n"
+          ++ codes "pamcheck takes it as a decimal number.";
       example =
           codes "# pam.conf\n"
           ++ codes "login account required pam_access.so\n"
@@ -211,7 +211,7 @@ long_field =
           ++ codes "$ printf '%01000d;*;*;!Al0000-2400\\n' 0 >time.conf\n"
           ++ codes "$ pamcheck check --conf pam.conf --time time.conf";
       linux_pam =
-          codes "1.5.2 and 1.7.0 have no room for it. They pass over the rule, which\n"
+          codes "1.5.2 and 1.7.0 have no room for it. They skip the rule, which\n"
           ++ codes "lets in; or, if it is the field of the times, they deny at all times.";
       mending =
           codes "shorten the field, or write several rules.";

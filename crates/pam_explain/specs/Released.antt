@@ -13,7 +13,7 @@ carriage_return =
       level = Warning;
       meaning =
           codes "A line has a carriage return, as files from other systems have at the end of\n"
-          ++ codes "each. It is a blank here.";
+          ++ codes "each. pamcheck takes it as a blank.";
       example =
           codes "$ printf 'auth required pam_unix.so\\r\\n' >login";
       linux_pam =

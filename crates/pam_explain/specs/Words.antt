@@ -29,7 +29,7 @@ source =
       name = codes "Source";
       level = Error;
       meaning =
-          codes "It is not said what is to be read, or it is said twice.";
+          codes "No source is named, or more than one.";
       example =
           codes "$ pamcheck show login auth";
       linux_pam =
@@ -232,7 +232,7 @@ no_such_number =
           codes "$ pamcheck explain E20";
       linux_pam = fault_of_words;
       mending =
-          codes "write a number as E15. The command explain alone lists all.";
+          codes "write a number such as E15. explain without a number lists all.";
     }
 
 unfoldable pub candidate_form : Explanation

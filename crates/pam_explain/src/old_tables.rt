@@ -52,7 +52,7 @@ fn no_line_feed_in_access_table() -> Explanation
             "$ pamcheck check --conf pam.conf --access access.conf"
         ),
         linux_pam: concat!(
-            "1.5.2 and 1.7.0 pass over it. A last line that keeps out all others\n",
+            "1.5.2 and 1.7.0 skip it. A last line that keeps out all others\n",
             "then keeps out nobody."
         ),
         mending: END_LINE,
@@ -76,7 +76,7 @@ fn leading_blank() -> Explanation
             "$ pamcheck check --conf pam.conf --access access.conf"
         ),
         linux_pam: concat!(
-            "1.5.2 and 1.7.0 pass over it, so a line that was to keep somebody\n",
+            "1.5.2 and 1.7.0 skip it, so a line that was to keep somebody\n",
             "out lets them in."
         ),
         mending: "remove the blanks before the rule.",
@@ -120,11 +120,11 @@ fn empty_separator() -> Explanation
         level: Level::Warning,
         meaning: concat!(
             "A rule with pam_access has an argument fieldsep= or listsep= without a value.\n",
-            "The separators are those without the argument here."
+            "pamcheck then uses the default ones."
         ),
         example: concat!("# login\n", "account required pam_access.so listsep="),
         linux_pam: concat!(
-            "1.5.2 and 1.7.0 then have none: they pass over every line, or take\n",
+            "1.5.2 and 1.7.0 then have none: they skip every line, or take\n",
             "each list for one name, and let in whom a line was to keep out."
         ),
         mending: "give the argument a value, or remove it.",
@@ -140,8 +140,8 @@ fn mask_digits() -> Explanation
         name: "MaskDigits",
         level: Level::Warning,
         meaning: concat!(
-            "A mask of an access table has several digits, and the first is 0. It is a\n",
-            "decimal number here."
+            "A mask of an access table has several digits, and the first is 0.\n",
+            "pamcheck takes it as a decimal number."
         ),
         example: concat!(
             "# pam.conf\n",
@@ -248,7 +248,7 @@ fn long_field() -> Explanation
             "$ pamcheck check --conf pam.conf --time time.conf"
         ),
         linux_pam: concat!(
-            "1.5.2 and 1.7.0 have no room for it. They pass over the rule, which\n",
+            "1.5.2 and 1.7.0 have no room for it. They skip the rule, which\n",
             "lets in; or, if it is the field of the times, they deny at all times."
         ),
         mending: "shorten the field, or write several rules.",

@@ -18,7 +18,7 @@ fn carriage_return() -> Explanation
         level: Level::Warning,
         meaning: concat!(
             "A line has a carriage return, as files from other systems have at the end of\n",
-            "each. It is a blank here."
+            "each. pamcheck takes it as a blank."
         ),
         example: "$ printf 'auth required pam_unix.so\\r\\n' >login",
         linux_pam: concat!(

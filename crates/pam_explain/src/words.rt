@@ -35,7 +35,7 @@ fn source() -> Explanation
         number: "U2",
         name: "Source",
         level: Level::Error,
-        meaning: "It is not said what is to be read, or it is said twice.",
+        meaning: "No source is named, or more than one.",
         example: "$ pamcheck show login auth",
         linux_pam: concat!(
             "by pam.conf(5) it ignores /etc/pam.conf where there is a folder\n",
@@ -255,7 +255,7 @@ fn no_such_number() -> Explanation
         meaning: "No fault or finding has the number that explain was given.",
         example: "$ pamcheck explain E20",
         linux_pam: FAULT_OF_WORDS,
-        mending: "write a number as E15. The command explain alone lists all.",
+        mending: "write a number such as E15. explain without a number lists all.",
     }
 }
 

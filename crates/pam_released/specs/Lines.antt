@@ -68,7 +68,7 @@ onto_line text (line ∷ lines) = (text ++ line) ∷ lines
 
 -- THE LOGICAL LINES
 
--- 1.5.2, where no line is too long: a line that is blank or a comment is passed over, also after a line that goes on. None
+-- 1.5.2, where no line is too long: a line that is blank or a comment is skipped, also after a line that goes on. None
 -- where the file ends after a line that goes on: it is refused as a whole. `inside`: the line before goes on
 unfoldable pub lines_152 : Bool → List (List ℕ) → Option (List (List ℕ))
 lines_152 inside [] = if inside then None else Some []
@@ -102,7 +102,7 @@ unfoldable pub filled : List (List ℕ) → List (List ℕ)
 filled [] = []
 filled (line ∷ lines) = if list_all is_text_blank line then filled lines else line ∷ filled lines
 
--- the lines of 1.7.0 that are not empty: the others are passed over
+-- the lines of 1.7.0 that are not empty: the others are skipped
 unfoldable pub not_empty : List (List ℕ) → List (List ℕ)
 not_empty [] = []
 not_empty ([] ∷ lines) = not_empty lines

@@ -30,7 +30,7 @@ numbered_152 line start got piece inside (b ∷ bs) =
     numbered_piece start got (piece ++ b ∷ []) inside line (λ s g i. numbered_152 line s g [] i bs)
     else numbered_152 line start got (piece ++ b ∷ []) inside bs
 
--- an empty line is passed over
+-- an empty line is skipped
 abbrev pub with_line : ℕ → List ℕ → List NumberedLine → List NumberedLine
 with_line start [] more = more
 with_line start (b ∷ text) more = (start, b ∷ text) ∷ more
