@@ -133,7 +133,7 @@ long_line =
     record {
       number = codes "L7";
       name = codes "LongLine";
-      level = Note;
+      level = Warning;
       meaning =
           codes "The lines of a rule have together more than 1,023 bytes.";
       example =

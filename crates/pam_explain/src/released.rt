@@ -158,7 +158,7 @@ fn long_line() -> Explanation
     Explanation {
         number: "L7",
         name: "LongLine",
-        level: Level::Note,
+        level: Level::Warning,
         meaning: "The lines of a rule have together more than 1,023 bytes.",
         example: "$ printf 'auth required pam_unix.so %1000s\\n' nullok >login",
         linux_pam: concat!(

@@ -3,7 +3,7 @@ use Rattle.std.specs.Prelude.{if◌then◌else◌}
 use Rattle.pam_conf.specs.declared.error.FaultKind.{FaultKind}
 use Rattle.pam_conf.specs.declared.error.FaultKind.TheVariants as faults
 use Rattle.pam_released.specs.declared.difference.Difference.{Difference}
-use Rattle.pam_released.specs.declared.difference.Difference.TheVariants.{DroppedBlank, LongLine}
+use Rattle.pam_released.specs.declared.difference.Difference.TheVariants.{DroppedBlank}
 use Rattle.pam_host.specs.declared.level.Level.{Level}
 use Rattle.pam_host.specs.declared.level.Level.TheVariants.{Error, Note, Warning}
 use Rattle.pam_host.specs.declared.problem.Problem.{Problem}
@@ -14,9 +14,8 @@ abbrev pub level_of_fault : FaultKind → Level
 level_of_fault faults.BadTarget = Warning
 level_of_fault fault = Error
 
--- a long line and a dropped blank change what is read, and not who gets in
+-- a dropped blank changes the text of a word in brackets, and nothing else
 abbrev pub level_of_difference : Difference → Level
-level_of_difference LongLine = Note
 level_of_difference DroppedBlank = Note
 level_of_difference difference = Warning
 

@@ -28,7 +28,7 @@ fn level_of_difference(difference: Difference) -> Level
     ensures { result ≡ level_of_difference difference }
 {
     match difference {
-        Difference::LongLine | Difference::DroppedBlank => Level::Note,
+        Difference::DroppedBlank => Level::Note,
         _ => Level::Warning,
     }
 }
