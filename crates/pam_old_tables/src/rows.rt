@@ -25,7 +25,7 @@ use pam_tables::parts::{Address, Network, is_passed_over};
 use pam_text::{ByteSet, cut, cut_among, is_table_blank};
 use pam_times::parts::{Fields, TimeEntry, is_token_byte};
 
-/// The least length of a field, in bytes with the `;` after it, for which Linux-PAM has no room.
+/// The least length of a field, in bytes, for which Linux-PAM has no room: it stores the byte that ends the field too.
 const ROOM: usize = 1000;
 
 /// 127.0.0.1, as a number.
