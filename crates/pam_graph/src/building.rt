@@ -209,6 +209,7 @@ impl Graph {
         ensures stack { (items : Items) → runs_of program.now ≡ runs_of_stack items → IfOk result (λ graph.
             IsListing (K.allows knowledge.now) (modules_of program.now) (path_through items) (walks graph)) }
         ensures nodes { IfOk result (λ graph. AreNodesOf (K.allows knowledge.now) program.now graph.nodes) }
+        ensures few { IfOk result (λ graph. length graph.nodes ≤ MAX_NODES) }
         ensures reason { IfErr result (IsReason MAX_NODES (K.allows knowledge.now) program.now) }
     {
         let mut draft = Draft::new(alloc, program.modules())?;
