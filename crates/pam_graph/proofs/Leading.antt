@@ -8,7 +8,7 @@ use Rattle.pam_dispatch.specs.Decision.{decision_of}
 use Rattle.pam_dispatch.specs.Flat.{rest_of}
 use Rattle.pam_dispatch.specs.Keys.{KeyValue, rest_at}
 use Rattle.pam_dispatch.specs.Representatives.{AreEqualRests}
-use Rattle.pam_dispatch.specs.Runs.{Runs, after_answer}
+use Rattle.pam_dispatch.specs.Runs.{Runs, after_answer, next_ask}
 use Rattle.pam_graph.specs.declared.error.GraphError.{GraphError}
 use Rattle.pam_graph.specs.declared.node.Edge.{Edge}
 use Rattle.pam_graph.specs.declared.node.Node.{Node}
@@ -16,9 +16,10 @@ use Rattle.pam_graph.specs.declared.node.Target.{Target}
 use Rattle.pam_graph.specs.declared.node.Target.TheVariants.{At, End}
 use Rattle.pam_graph.specs.inner.Building.{IsExtended}
 use Rattle.pam_graph.specs.Places.{AreEdgesAt, GoesOnAt, IsEdgeAt}
-use Rattle.pam_graph.proofs.Rests.{after-equal, asked-equal, equal-sym, equal-trans, state-equal}
+use Rattle.pam_graph.proofs.Rests.{after-equal, asked-equal, classes-equal, equal-sym, equal-trans, state-equal}
 use Rattle.pam_paths.specs.declared.fork.Choice.{Choice}
 use Rattle.pam_paths.specs.declared.fork.Fork.{Fork}
+use Rattle.pam_paths.specs.Classes.{class_of}
 use Rattle.pam_paths.specs.Forks.{IsChoice}
 use Rattle.pam_paths.specs.Listing.{Allowance}
 
@@ -64,6 +65,7 @@ module _ (allows : Allowance) (program : List FlatItem) where
     code = h.code;
     is_code = h.is_code;
     allowed = h.allowed;
+    class = h.class;
     leads = goes-on-more program keys more (after_answer runs h.code) edge.target h.leads;
   }
 
@@ -121,6 +123,8 @@ module _ (allows : Allowance) (program : List FlatItem) where
         code = is.code;
         is_code = is.is_code;
         allowed = subst (λ (n : ℕ). allows n is.code ≡ true) numbered is.allowed;
+        class = is.class ∙ ap (λ (p : Place). class_of (next_ask (rest_of program p)) is.code) here
+            ∙ sym (classes-equal allows runs (rest_of program place) is.code rests);
         leads = goes-on-equal program new (after_answer runs is.code) (after_answer (rest_of program place) is.code) target
             (after-equal runs (rest_of program place) is.code rests) (subst (λ (r : Runs). GoesOnAt program new r target) after leads);
       } in

@@ -4,10 +4,11 @@ use Rattle.std.proofs.Math.Path.{fun_ext}
 use Rattle.std.specs.List.{list_any}
 use Rattle.pam_codes.specs.Code.{all_codes}
 use Rattle.pam_codes.specs.Set.{codes_where}
+use Rattle.pam_dispatch.specs.declared.state.State.{State}
 use Rattle.pam_dispatch.specs.declared.step.Outcome.{Outcome}
 use Rattle.pam_dispatch.specs.Decision.{decision_of}
 use Rattle.pam_dispatch.specs.Representatives.{AreEqualRests}
-use Rattle.pam_dispatch.specs.Runs.{Ask, AsksRise, Runs, after_answer, asked_module, asks, ends, outcome_of, state_in}
+use Rattle.pam_dispatch.specs.Runs.{Ask, AsksRise, Runs, after_answer, asked_module, asks, ends, next_ask, outcome_of, state_in}
 use Rattle.pam_graph.specs.inner.Building.{IsBefore}
 use Rattle.pam_paths.specs.Classes.{class_at, class_of, least, same_outcome}
 use Rattle.pam_paths.specs.Computed.{after_step, branches, is_offered, listing}
@@ -118,3 +119,12 @@ after-equal (ends s) (asks ask next) code h = absurd h
 after-equal (asks ask next) (ends t) code h = absurd h
 after-equal (asks ask next) (asks other later) code h =
     subst (λ (o : Outcome). AreEqualRests (next (outcome_of ask code)) (later o)) (h.2 code) (h.3 (outcome_of ask code))
+
+-- and the classes of answers
+pub classes-equal : (allows : Allowance) (one other : Runs) (code : ℕ) → AreEqualRests one other →
+    class_of (next_ask one) code ≡ class_of (next_ask other) code
+unfolding AreEqualRests
+classes-equal allows (ends s) (ends t) code h = ap (λ (u : State). class_of (next_ask (ends u)) code) h
+classes-equal allows (ends s) (asks ask next) code h = absurd h
+classes-equal allows (asks ask next) (ends t) code h = absurd h
+classes-equal allows (asks ask next) (asks other later) code h = class-equal allows ask other h.0 h.2 code

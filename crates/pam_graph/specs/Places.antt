@@ -5,13 +5,14 @@ use Rattle.pam_dispatch.specs.Decision.{decision_of}
 use Rattle.pam_dispatch.specs.Flat.{modules_of, runs_of}
 use Rattle.pam_dispatch.specs.Keys.{AreDifferent, KeyValue, rest_at}
 use Rattle.pam_dispatch.specs.Representatives.{AreEqualRests}
-use Rattle.pam_dispatch.specs.Runs.{Runs, after_answer, asked_module, state_in}
+use Rattle.pam_dispatch.specs.Runs.{Runs, after_answer, asked_module, next_ask, state_in}
 use Rattle.pam_graph.specs.declared.node.Edge.{Edge}
 use Rattle.pam_graph.specs.declared.node.Node.{Node}
 use Rattle.pam_graph.specs.declared.node.Target.{Target}
 use Rattle.pam_graph.specs.declared.node.Target.TheVariants.{At, End}
 use Rattle.pam_graph.specs.Reached.{IsReachedKey}
 use Rattle.pam_graph.specs.Walks.{GraphValue, walks_of}
+use Rattle.pam_paths.specs.Classes.{class_of}
 use Rattle.pam_paths.specs.Listing.{Allowance, IsListing}
 use Rattle.pam_paths.specs.Paths.{PathValue, path_of}
 
@@ -42,11 +43,12 @@ GoesOnAt program keys runs (At index) = (key : KeyValue) × (slice_get keys inde
 GoesOnAt program keys runs (End decision) = (asked_module runs ≡ None) × (decision ≡ decision_of (state_in runs))
 
 -- an edge from a place at which the module with this number is asked leads to where the run, of which `runs` is the rest there, goes on
--- after some answer that the module is allowed
+-- after an answer that the module is allowed, and has the class of this answer, so of all that are alike to it there
 pub record IsEdgeAt (allows : Allowance) (program : List FlatItem) (keys : List KeyValue) (number : ℕ) (runs : Runs) (edge : Edge) : Type 0 where
   pub code : ℕ
   pub is_code : code < 31
   pub allowed : allows number code ≡ true
+  pub class : edge.class ≡ class_of (next_ask runs) code
   pub leads : GoesOnAt program keys (after_answer runs code) edge.target
 
 -- so does each edge of the nodes at the places with these keys; `all` are those of all nodes
