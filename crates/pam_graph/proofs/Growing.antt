@@ -81,9 +81,9 @@ AreAsking-push n (x ∷ all) r h k = (h.0, AreAsking-push n all r h.1 k)
 pub extended-length : (old new : List Node) → IsExtended old new → length old ≤ length new
 extended-length old new h = let k = ap length h.1 ∙ length-append old h.0 in omega (arith, k)
 
-pub extended-trans : (one two three : List Node) → IsExtended one two → IsExtended two three → IsExtended one three
-extended-trans one two three h k =
-    (h.0 ++ k.0, k.1 ∙ ap (λ (x : List Node). x ++ k.0) h.1 ∙ append_assoc one h.0 k.0)
+pub extended-trans : {A : Type 0} (one two three : List A) → IsExtended one two → IsExtended two three → IsExtended one three
+extended-trans {A} one two three h k =
+    (h.0 ++ k.0, k.1 ∙ ap (λ (x : List A). x ++ k.0) h.1 ∙ append_assoc one h.0 k.0)
 
 pub numbers-extended : (old new : List Node) → IsExtended old new → (more : List ℕ) × (numbers_of new ≡ numbers_of old ++ more)
 numbers-extended old new h = (numbers_of h.0, ap numbers_of h.1 ∙ map-append number_of old h.0)
@@ -283,7 +283,7 @@ added-above old new node low (Ok target) l is at =
         ∙ get_or-append_seam (numbers_of old) node.module_number [] 0
 added-above old new node low (Err e) l is at = tt
 
-pub added-extended : (old new all : List Node) (node : Node) (result : Result Target GraphError) → IsExtended all old → OnOk result (new ≡ old ++ node ∷ []) →
-    OnOk result (IsExtended all new)
-added-extended old new all node (Ok target) h is = extended-trans all old new h (node ∷ [], is)
-added-extended old new all node (Err e) h is = tt
+pub added-extended : {A : Type 0} (old new all : List A) (one : A) (result : Result Target GraphError) → IsExtended all old →
+    OnOk result (new ≡ old ++ one ∷ []) → OnOk result (IsExtended all new)
+added-extended old new all one (Ok target) h is = extended-trans all old new h (one ∷ [], is)
+added-extended old new all one (Err e) h is = tt

@@ -5,6 +5,7 @@ pub mod Drafts
 pub mod Following
 pub mod FrameLists
 pub mod Growing
+pub mod Leading
 pub mod Paging
 pub mod Passing
 pub mod Placing

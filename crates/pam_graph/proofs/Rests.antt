@@ -1,13 +1,14 @@
--- Equal rests of a run have one listing.
+-- Equal rests of a run ask one module in one state, go on equally, and have one listing.
 use Rattle.std.proofs.Common.{◌≡◌, ◌<◌, ◌≤◌, ℕ, Bool, ◌&&◌, List, [], ◌∷◌, ◌++◌, eqb, refl, sym, ◌∙◌, ap, cond, map, Some, subst}
 use Rattle.std.proofs.Math.Path.{fun_ext}
 use Rattle.std.specs.List.{list_any}
 use Rattle.pam_codes.specs.Code.{all_codes}
 use Rattle.pam_codes.specs.Set.{codes_where}
+use Rattle.pam_dispatch.specs.declared.state.State.{State}
 use Rattle.pam_dispatch.specs.declared.step.Outcome.{Outcome}
 use Rattle.pam_dispatch.specs.Decision.{decision_of}
 use Rattle.pam_dispatch.specs.Representatives.{AreEqualRests}
-use Rattle.pam_dispatch.specs.Runs.{Ask, AsksRise, Runs, asked_module, asks, ends, outcome_of, state_in}
+use Rattle.pam_dispatch.specs.Runs.{Ask, AsksRise, Runs, after_answer, asked_module, asks, ends, next_ask, outcome_of, state_in}
 use Rattle.pam_graph.specs.inner.Building.{IsBefore}
 use Rattle.pam_paths.specs.Classes.{class_at, class_of, least, same_outcome}
 use Rattle.pam_paths.specs.Computed.{after_step, branches, is_offered, listing}
@@ -91,3 +92,39 @@ before-equal (asks ask next) (ends s) (ends t) h before = tt
 before-equal (asks ask next) (ends s) (asks other later) h before = absurd h
 before-equal (asks ask next) (asks one more) (ends t) h before = absurd h
 before-equal (asks ask next) (asks one more) (asks other later) h before = subst (λ (n : ℕ). ask.module_number < n) (sym h.0) before
+
+pub equal-sym : (one other : Runs) → AreEqualRests one other → AreEqualRests other one
+unfolding AreEqualRests
+equal-sym (ends s) (ends t) h = sym h
+equal-sym (ends s) (asks ask next) h = absurd h
+equal-sym (asks ask next) (ends t) h = absurd h
+equal-sym (asks ask next) (asks other later) h =
+    (sym h.0, sym h.1, λ code. sym (h.2 code), λ o. equal-sym (next o) (later o) (h.3 o))
+
+pub equal-trans : (one two three : Runs) → AreEqualRests one two → AreEqualRests two three → AreEqualRests one three
+unfolding AreEqualRests
+equal-trans (ends s) (ends t) (ends u) h k = h ∙ k
+equal-trans (ends s) (ends t) (asks third last) h k = absurd k
+equal-trans (ends s) (asks other later) three h k = absurd h
+equal-trans (asks ask next) (ends t) three h k = absurd h
+equal-trans (asks ask next) (asks other later) (ends u) h k = absurd k
+equal-trans (asks ask next) (asks other later) (asks third last) h k =
+    (h.0 ∙ k.0, h.1 ∙ k.1, λ code. h.2 code ∙ k.2 code, λ o. equal-trans (next o) (later o) (last o) (h.3 o) (k.3 o))
+
+-- so are the rests after an answer
+pub after-equal : (one other : Runs) (code : ℕ) → AreEqualRests one other → AreEqualRests (after_answer one code) (after_answer other code)
+unfolding AreEqualRests
+after-equal (ends s) (ends t) code h = h
+after-equal (ends s) (asks ask next) code h = absurd h
+after-equal (asks ask next) (ends t) code h = absurd h
+after-equal (asks ask next) (asks other later) code h =
+    subst (λ (o : Outcome). AreEqualRests (next (outcome_of ask code)) (later o)) (h.2 code) (h.3 (outcome_of ask code))
+
+-- and the classes of answers
+pub classes-equal : (allows : Allowance) (one other : Runs) (code : ℕ) → AreEqualRests one other →
+    class_of (next_ask one) code ≡ class_of (next_ask other) code
+unfolding AreEqualRests
+classes-equal allows (ends s) (ends t) code h = ap (λ (u : State). class_of (next_ask (ends u)) code) h
+classes-equal allows (ends s) (asks ask next) code h = absurd h
+classes-equal allows (asks ask next) (ends t) code h = absurd h
+classes-equal allows (asks ask next) (asks other later) code h = class-equal allows ask other h.0 h.2 code

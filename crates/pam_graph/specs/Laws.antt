@@ -1,9 +1,10 @@
--- What the definition of goals implies, and of walks after a cursor.
+-- What the definition of goals implies, and of walks after a cursor; and the number of nodes.
 use Rattle.std.specs.Prelude.{◌≡◌, ℕ, ◌≤◌, false, All, List, []}
 use Rattle.std.specs.List.{list_any}
 use Rattle.pam_dispatch.specs.Runs.{Assignment}
 use Rattle.pam_graph.specs.declared.goal.Goal.{Goal}
 use Rattle.pam_graph.specs.declared.goal.Goal.TheVariants.{Any}
+use Rattle.pam_graph.specs.declared.graph.TheConstants.{MAX_NODES}
 use Rattle.pam_graph.specs.Goals.{meeting, meets}
 use Rattle.pam_paths.specs.Listing.{Allowance, IsListing}
 use Rattle.pam_paths.specs.Pages.{ArePrefix, after, before, pages}
@@ -30,3 +31,7 @@ MeetingPagesJoinBackwards =
     (goal : Goal) (allows : Allowance) (n : ℕ) (path_by : Assignment → PathValue) (k : List ℕ) (all : List PathValue) (sizes : List ℕ) →
     IsListing allows n path_by all → All (λ size. 1 ≤ size) sizes →
     ArePrefix (pages (λ j. meeting goal (before j all)) (meeting goal (before k all)) sizes) (meeting goal (before k all))
+
+-- the most nodes of a graph
+abbrev pub MostNodes : Type 0
+MostNodes = MAX_NODES ≡ 65536

@@ -13,7 +13,7 @@ ghost use Rattle.pam_graph.specs.declared.node.Target.TheVariants.{At};
 ghost use Rattle.pam_graph.specs.declared.error.GraphError.TheVariants.{TooManyNodes};
 ghost use Rattle.pam_graph.specs.declared.graph.TheConstants.{MAX_NODES};
 ghost use Rattle.pam_graph.specs.inner.Building.{Continues, IsDraft};
-ghost use Rattle.pam_graph.specs.Places.{AreNodesOf};
+ghost use Rattle.pam_graph.specs.Places.{AreEdgesOf, AreNodesOf};
 ghost use Rattle.pam_graph.specs.Reached.{IsReached, IsReason, node_key};
 ghost use Rattle.pam_graph.specs.Walks.{walks};
 ghost use Rattle.pam_paths.specs.Listing.{Allowance, IsListing};
@@ -209,6 +209,8 @@ impl Graph {
         ensures stack { (items : Items) → runs_of program.now ≡ runs_of_stack items → IfOk result (λ graph.
             IsListing (K.allows knowledge.now) (modules_of program.now) (path_through items) (walks graph)) }
         ensures nodes { IfOk result (λ graph. AreNodesOf (K.allows knowledge.now) program.now graph.nodes) }
+        ensures edges { IfOk result (AreEdgesOf (K.allows knowledge.now) program.now) }
+        ensures few { IfOk result (λ graph. length graph.nodes ≤ MAX_NODES) }
         ensures reason { IfErr result (IsReason MAX_NODES (K.allows knowledge.now) program.now) }
     {
         let mut draft = Draft::new(alloc, program.modules())?;

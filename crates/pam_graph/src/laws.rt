@@ -1,6 +1,6 @@
 //! Laws of the definitions that the contracts cite: each is the contract of an empty function.
 
-ghost use Rattle.pam_graph.specs.Laws.{AllMeetAny, MeetingPagesJoin, MeetingPagesJoinBackwards, NoneMeets};
+ghost use Rattle.pam_graph.specs.Laws.{AllMeetAny, MeetingPagesJoin, MeetingPagesJoinBackwards, MostNodes, NoneMeets};
 
 /// Each path meets the goal `Any`, and a goal that no path meets has none.
 pub fn goals()
@@ -13,4 +13,9 @@ pub fn goals()
 pub fn pages()
     ensures after { MeetingPagesJoin }
     ensures before { MeetingPagesJoinBackwards }
+{}
+
+/// A graph has at most 65,536 nodes.
+pub fn limit()
+    ensures { MostNodes }
 {}

@@ -6,6 +6,7 @@ use Rattle.pam_dispatch.specs.Runs.{AsksRise, after_answer, asked_module, next_a
 use Rattle.pam_paths.specs.declared.direction.Direction.TheVariants.{Forward}
 use Rattle.pam_paths.specs.declared.fork.Choice.{Choice}
 use Rattle.pam_paths.specs.declared.fork.Fork.{Fork}
+use Rattle.pam_paths.specs.Classes.{class_of}
 use Rattle.pam_paths.specs.Computed.{after_step, listing}
 use Rattle.pam_paths.specs.Frames.{AreClasses, ahead_of, offered_at}
 use Rattle.pam_paths.specs.Listing.{Allowance}
@@ -28,7 +29,7 @@ abbrev pub paths_by : Allowance → List FlatItem → ℕ → Choice → List Pa
 paths_by allows program number choice =
     map (after_step (record { module_number = number; class = choice.class })) (listing allows (rest_of program choice.place))
 
--- a choice leads, by an allowed answer, to a place of the program, from which on later modules are asked
+-- a choice has the class of an allowed answer, and leads by it to a place of the program, from which on later modules are asked
 pub record IsChoice (allows : Allowance) (program : List FlatItem) (fork : Fork) (choice : Choice) : Type 0 where
   pub place : IsPlaceOf program choice.place
   pub rise : AsksRise fork.module_number (modules_of program) (rest_of program choice.place)
@@ -36,3 +37,4 @@ pub record IsChoice (allows : Allowance) (program : List FlatItem) (fork : Fork)
   pub is_code : code < 31
   pub allowed : allows fork.module_number code ≡ true
   pub rest : rest_of program choice.place ≡ after_answer (rest_of program fork.place) code
+  pub class : choice.class ≡ class_of (next_ask (rest_of program fork.place)) code

@@ -11,6 +11,7 @@ use Rattle.pam_graph.specs.declared.node.Node.{Node}
 use Rattle.pam_graph.specs.declared.node.Target.{Target}
 use Rattle.pam_graph.specs.inner.Caches.{AreCachesFor}
 use Rattle.pam_graph.specs.Order.{AreNodes, IsAbove, numbers_of}
+use Rattle.pam_graph.specs.Places.{AreEdgesAt, GoesOnAt}
 use Rattle.pam_graph.specs.Reached.{AreReachedKeys}
 use Rattle.pam_graph.specs.Walks.{walks_of, walks_to}
 use Rattle.pam_paths.specs.Computed.{listing}
@@ -58,9 +59,9 @@ IsBefore (ends s) other = ⊥
 IsBefore (asks ask next) (ends s) = Unit {0}
 IsBefore (asks ask next) (asks later after) = ask.module_number < later.module_number
 
--- nodes were added at the end
-abbrev pub IsExtended : List Node → List Node → Type 0
-IsExtended old new = (more : List Node) × (new ≡ old ++ more)
+-- nodes, or keys, were added at the end
+abbrev pub IsExtended : {A : Type 0} → List A → List A → Type 0
+IsExtended {A} old new = (more : List A) × (new ≡ old ++ more)
 
 -- a draft of the graph of a program's runs, of at most `limit` nodes
 pub record IsDraft (limit : ℕ) (allows : Allowance) (program : List FlatItem) (draft : Draft) : Type 0 where
@@ -68,15 +69,18 @@ pub record IsDraft (limit : ℕ) (allows : Allowance) (program : List FlatItem) 
   pub cached : AreCachesFor allows program draft.caches.items
   pub keys : AreReachedKeys allows program draft.places
   pub fits : length draft.places ≤ limit
+  pub edges : AreEdgesAt allows program draft.places draft.places draft.nodes.items
 
--- nodes and places to which others were added, so that the walks from a target on are the paths from a place on; places of modules
--- that are asked earlier were not added
+-- nodes and places to which others were added, so that the run goes on from a place at a target, and the walks from there on are the
+-- paths; places of modules that are asked earlier were not added
 pub record IsContinued (allows : Allowance) (program : List FlatItem) (place : Place) (old : List Node) (old_places : List KeyValue)
     (new : List Node) (new_places : List KeyValue) (target : Target) : Type 0 where
   pub extended : IsExtended old new
   pub apart : (key : KeyValue) → DiffersFrom key old_places → IsBefore (rest_at program key) (rest_of program place) → DiffersFrom key new_places
   pub above : (low : ℕ) → AsksRise low (modules_of program) (rest_of program place) → IsAbove (numbers_of new) low target
   pub walks : walks_to (walks_of new) target ≡ listing allows (rest_of program place)
+  pub kept : IsExtended old_places new_places
+  pub leads : GoesOnAt program new_places (rest_of program place) target
 
 -- a draft was extended so that a target continues the runs that have come to a place
 abbrev pub Continues : Allowance → List FlatItem → Place → Draft → Draft → Target → Type 0

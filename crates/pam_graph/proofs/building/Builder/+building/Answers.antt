@@ -1,6 +1,7 @@
 use Rattle.std.proofs.Common.{◌≡◌, ◌<◌, ◌++◌, ◌∷◌, ◌∙◌, [], ℕ, List, Some, ap, append-nil, arith, refl, rules, subst, sym, true}
 use Rattle.std.specs.List.{flat_map}
-use Rattle.std.specs.Prelude.{IsSome}
+use Rattle.std.specs.Prelude.{All, IsSome}
+use Rattle.std.proofs.lemmas.List.Elements.{All-nil}
 use Rattle.pam_dispatch.specs.declared.place.Place.{Place}
 use Rattle.pam_dispatch.specs.Flat.{modules_of, rest_of}
 use Rattle.pam_dispatch.specs.Keys.{rest_at}
@@ -11,12 +12,14 @@ use Rattle.pam_graph.specs.declared.node.Node.{Node}
 use Rattle.pam_graph.specs.inner.Building.{IsDraft, modules_left}
 use Rattle.pam_graph.specs.inner.Caches.{AreCachesFor}
 use Rattle.pam_graph.specs.Order.{AreAbove, IsNode, LeastRise, numbers_of}
+use Rattle.pam_graph.specs.Places.{IsEdgeAt}
 use Rattle.pam_graph.specs.Reached.{node_key}
 use Rattle.pam_graph.specs.Walks.{walks_by, walks_of}
 use Rattle.pam_graph.proofs.Drafts.{added-continued, added-draft}
 use Rattle.pam_graph.proofs.Growing.{AreAbove-push, LeastRise-more, LeastRise-push, above-extended}
 use Rattle.pam_graph.proofs.Growing.{added-above, added-built, added-extended, added-walks, built-found}
 use Rattle.pam_graph.proofs.Growing.{built-length, extended-trans, found-above, left-at, left-fewer, listing-end, node-for, walks-all, walks-choice}
+use Rattle.pam_graph.proofs.Leading.{added-edges, added-goes-on, edges-choice}
 use Rattle.pam_graph.proofs.Reaching.{added-apart, added-keys, added-reason, added-rests, before-later, before-trans}
 use Rattle.pam_graph.proofs.Reaching.{get-at, key-apart, key-reached, reached-on}
 use Rattle.pam_graph.proofs.Rests.{asked-equal, before-equal, listing-equal, rise-equal, state-equal}
@@ -33,12 +36,14 @@ target_of-returns-in_default-clause-continues g t c =
       above = λ low rise. tt;
       walks = listing-end _ (rest_of program c.args.place.now) c.code.result
           (sym (c.module.ensures program c.requires.place) ∙ c.in_default.is) (c.code.ensures ∙ c.decision.ensures);
+      kept = ([], sym (append-nil _));
+      leads = (sym (c.module.ensures program c.requires.place) ∙ c.in_default.is, c.code.ensures ∙ c.decision.ensures);
     }
 
 pub target_of-returns-in-Some-find-clause-draft : goal.target_of-returns-in-Some-find-clause-draft
 target_of-returns-in-Some-find-clause-draft g t c =
     let d = c.requires.draft in
-    record { built = d.built; cached = d.cached; keys = d.keys; fits = d.fits }
+    record { built = d.built; cached = d.cached; keys = d.keys; fits = d.fits; edges = d.edges }
 
 pub target_of-returns-in-Some-find-clause-continues : goal.target_of-returns-in-Some-find-clause-continues
 target_of-returns-in-Some-find-clause-continues g t c =
@@ -57,6 +62,8 @@ target_of-returns-in-Some-find-clause-continues g t c =
           key (rest_at program key) built k.0 (ap (rest_at program) k.1) (asked-equal _ _ same ∙ asked) (rise-equal low (modules_of program) _ _ same rise);
       walks = built-found _ program nodes places c.in-Some-find.index key (rest_at program key) built k.0 (ap (rest_at program) k.1)
           ∙ listing-equal _ _ _ same;
+      kept = ([], sym (append-nil _));
+      leads = (key, c.in-Some-find.ensures.found, same);
     }
 
 pub target_of-node_at-requires : goal.target_of-node_at-requires
@@ -65,7 +72,7 @@ target_of-node_at-requires g t c κs within =
     let now = c.args.draft.now in
     let found : Draft = record { nodes = now.nodes; places = now.places; caches = now.caches; last_nodes = c.find.new.last_nodes } in
     let draft : IsDraft c.args.self.now.limit (g.K.Knowledge.allows c.args.self.now.knowledge.now) c.args.self.now.program.now found =
-    record { built = d.built; cached = d.cached; keys = d.keys; fits = d.fits } in
+    record { built = d.built; cached = d.cached; keys = d.keys; fits = d.fits; edges = d.edges } in
     let asking : IsSome (asked_module (rest_of c.args.self.now.program.now c.args.place.now)) =
     subst IsSome (sym (sym (c.module.ensures c.args.self.now.program.now c.requires.place) ∙ c.in-Some.is)) refl in
     let rests = c.in_default-find.ensures.rests in
@@ -77,11 +84,13 @@ pub node_at-loop-choice-init : goal.node_at-loop-choice-init
 unfolding AreAbove LeastRise
 node_at-loop-choice-init g t c =
     let allows = g.K.Knowledge.allows c.args.self.now.knowledge.now in
+    let program = c.args.self.now.program.now in
     let nodes = c.args.draft.now.nodes.items in
+    let key = node_key program c.args.place.now in
     let d = c.requires.draft in
     record {
       bound = omega arith;
-      draft = record { built = d.built; cached = c.fork_at-fork.ensures.caches; keys = d.keys; fits = d.fits };
+      draft = record { built = d.built; cached = c.fork_at-fork.ensures.caches; keys = d.keys; fits = d.fits; edges = d.edges };
       extended = ([], sym (append-nil _));
       later = subst (AreAbove (numbers_of nodes) c.in-Some.module_number) (sym c.in_ok-edges.ensures.items) tt;
       rise = subst (LeastRise 0 0) (sym c.in_ok-edges.ensures.items) (omega arith);
@@ -89,6 +98,9 @@ node_at-loop-choice-init g t c =
       apart = λ key h before. h;
       walks = ap (λ (x : List Edge). flat_map (walks_by (walks_of nodes) c.in-Some.module_number) x
           ++ paths_from allows c.args.self.now.program.now c.fork_at-fork.result 0) c.in_ok-edges.ensures.items ∙ c.fork_at-fork.ensures.paths;
+      kept = ([], sym (append-nil _));
+      leads = subst (All (IsEdgeAt allows program c.args.draft.now.places c.in-Some.module_number (rest_at program key)))
+          (sym c.in_ok-edges.ensures.items) (All-nil _);
     }
 
 pub node_at-target_of-requires : goal.node_at-target_of-requires
@@ -122,6 +134,8 @@ node_at-loop-choice-preserved g t c =
     let m = c.in-Some.module_number in
     let old = c.loop-choice.draft.nodes.items in
     let new = c.target_of.new.draft.nodes.items in
+    let places = c.target_of.new.draft.places in
+    let key = node_key program c.args.place.now in
     let edges = c.loop-choice.edges.items in
     let choice = c.in-Some-choice.choice in
     let i = c.loop-choice.invariant in
@@ -147,6 +161,10 @@ node_at-loop-choice-preserved g t c =
       walks = ap (λ (x : List Edge). flat_map (walks_by (walks_of new) m) x ++ paths_from allows program c.fork_at-fork.result choice.next) pushed
           ∙ walks-choice allows program c.fork_at-fork.result c.loop-choice.bound m old new edges choice c.in_ok-target.target _
           e.extended i.later c.fork_at-fork.ensures.number (c.in-Some-choice.ensures.paths allows c.fork_at-fork.ensures.fork) e.walks i.walks;
+      kept = extended-trans c.args.draft.now.places c.loop-choice.draft.places places i.kept e.kept;
+      leads = subst (All (IsEdgeAt allows program places m (rest_at program key))) (sym pushed)
+          (edges-choice allows program c.loop-choice.draft.places places m c.args.place.now key c.fork_at-fork.result choice edges
+          c.in_ok-target.target e.kept c.requires.rests c.fork_at-fork.ensures.place c.fork_at-fork.ensures.number is e.leads i.leads);
     }
 
 pub node_at-add-requires-clause-same : goal.node_at-add-requires-clause-same
@@ -182,6 +200,8 @@ node_at-returns-clause-draft g t c =
     (subst (AreCachesFor allows program) (sym c.add.ensures.caches) i.draft.cached)
     (added-keys c.args.self.now.limit allows program places c.add.new.draft.places key c.add.result i.draft.keys reached c.add.ensures.place)
     c.add.ensures.fits
+    (added-edges allows program nodes c.add.new.draft.nodes.items places c.add.new.draft.places node key c.add.result i.draft.edges i.leads
+    c.add.ensures.node c.add.ensures.place)
 
 pub node_at-returns-clause-continues : goal.node_at-returns-clause-continues
 node_at-returns-clause-continues g t c =
@@ -203,6 +223,9 @@ node_at-returns-clause-continues g t c =
     added-above nodes new.nodes.items node low c.add.result k.0 c.add.ensures.node c.add.ensures.target)
     (added-walks allows program nodes new.nodes.items node (rest_of program c.args.place.now) c.add.result
     (walks-all allows program c.fork_at-fork.result c.loop-choice.bound node nodes _ none i.walks) c.add.ensures.node c.add.ensures.target)
+    (added-extended places new.places c.args.draft.now.places key c.add.result i.kept c.add.ensures.place)
+    (added-goes-on program places new.places key (rest_of program c.args.place.now) _ c.add.result
+    (built-length allows program nodes places i.draft.built) c.requires.rests c.add.ensures.place c.add.ensures.target)
 
 pub node_at-returns-clause-reason : goal.node_at-returns-clause-reason
 node_at-returns-clause-reason g t c =

@@ -1,9 +1,11 @@
 use Rattle.std.proofs.Common.{◌≡◌, ◌+◌, ◌-◌, ◌*◌, ◌≤◌, ◌++◌}
 use Rattle.std.specs.List.{flat_map}
+use Rattle.std.specs.Prelude.{All}
 use Rattle.pam_dispatch.specs.Flat.{modules_of, rest_of}
 use Rattle.pam_dispatch.specs.Keys.{DiffersFrom, KeyValue, rest_at}
 use Rattle.pam_graph.specs.inner.Building.{IsBefore, IsDraft, IsExtended, modules_left}
 use Rattle.pam_graph.specs.Order.{AreAbove, LeastRise, numbers_of}
+use Rattle.pam_graph.specs.Places.{IsEdgeAt}
 use Rattle.pam_graph.specs.Reached.{node_key}
 use Rattle.pam_graph.specs.Walks.{walks_by, walks_of}
 use Rattle.pam_paths.specs.Computed.{listing}
@@ -30,6 +32,9 @@ invariant-node_at-loop-choice g l =
           → DiffersFrom key l.draft.places;
       walks : flat_map (walks_by (walks_of l.draft.nodes.items) l.module_number) l.edges.items ++ paths_from allows l.self.program.now l.fork l.bound
           ≡ listing allows (rest_of l.self.program.now l.place);
+      kept : IsExtended l.fn.draft.places l.draft.places;
+      leads : All (IsEdgeAt allows l.self.program.now l.draft.places l.module_number
+          (rest_at l.self.program.now (node_key l.self.program.now l.place))) l.edges.items;
     }
 
 abbrev pub decreases-node_at-loop-choice : goal.decreases-node_at-loop-choice

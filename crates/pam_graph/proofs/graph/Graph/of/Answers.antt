@@ -1,7 +1,10 @@
 use Rattle.std.proofs.Common.{◌∙◌, [], ap, arith, subst, sym}
 use Rattle.pam_dispatch.specs.Flat.{modules_of, runs_of}
+use Rattle.pam_dispatch.specs.Runs.{Runs}
 use Rattle.pam_graph.specs.declared.graph.TheConstants.{MAX_NODES}
+use Rattle.pam_graph.specs.Places.{GoesOnAt}
 use Rattle.pam_graph.specs.Reached.{AreAllowed, after_answers}
+use Rattle.pam_graph.proofs.Growing.{built-length}
 use Rattle.pam_graph.proofs.Placing.{built-at}
 use Rattle.pam_paths.specs.Computed.{listing}
 use Rattle.pam_paths.specs.Listing.{IsListing}
@@ -35,6 +38,24 @@ returns-clause-nodes g c =
       built-at allows program some.0 some.1 c.target_of.new.draft.nodes.items c.target_of.new.draft.places c.in_ok-start.ensures.draft.built
           c.in_ok-start.ensures.draft.keys,
     )
+
+pub returns-clause-edges : goal.returns-clause-edges
+unfolding returns-clause-nodes
+returns-clause-edges g c =
+    let at = returns-clause-nodes g c in (
+      at.0,
+      at.1,
+      at.2,
+      c.in_ok-start.ensures.draft.edges,
+      subst (λ (r : Runs). GoesOnAt c.args.program.now c.target_of.new.draft.places r c.in_ok-start.start) c.first-first.ensures.whole
+          c.in_ok-start.ensures.continues.leads,
+    )
+
+pub returns-clause-few : goal.returns-clause-few
+returns-clause-few g c =
+    let d = c.in_ok-start.ensures.draft in
+    let same = built-length _ c.args.program.now c.target_of.new.draft.nodes.items c.target_of.new.draft.places d.built in
+    omega (arith, same, d.fits)
 
 pub returns-clause-stack : goal.returns-clause-stack
 returns-clause-stack g c items is = listing-tree _ _ _ items is _ (returns-clause-listing g c)

@@ -59,6 +59,7 @@ returns-in-Some-clause-choice c allows is =
       is_code = answer.1;
       allowed = answer.2;
       rest = answer.3;
+      class = c.class_of.ensures ∙ answer.4;
     }
 
 pub returns-in-Some-clause-least : goal.returns-in-Some-clause-least
