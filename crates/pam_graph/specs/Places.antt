@@ -36,14 +36,14 @@ abbrev pub AreNodesOf : Allowance → List FlatItem → List Node → Type 0
 AreNodesOf allows program nodes =
     (keys : List KeyValue) × AreDifferent keys × AreNodesAt allows program keys nodes (walks_of nodes)
 
--- a run goes on at a target: at a node, if the rest from the place with the key of this node on is equal to it; or at an end, if it asks
--- no module and this is its decision. `keys` are those of all nodes, in their order
+-- a run goes on at a target: at a node, if its rest is equal to the rest at the key of the node; at an end, if it asks no module and
+-- this is its decision. `keys` are the keys of all nodes, in their order
 abbrev pub GoesOnAt : List FlatItem → List KeyValue → Runs → Target → Type 0
 GoesOnAt program keys runs (At index) = (key : KeyValue) × (slice_get keys index ≡ Some key) × AreEqualRests (rest_at program key) runs
 GoesOnAt program keys runs (End decision) = (asked_module runs ≡ None) × (decision ≡ decision_of (state_in runs))
 
--- an edge from a place at which the module with this number is asked leads to where the run, of which `runs` is the rest there, goes on
--- after an answer that the module is allowed, and has the class of this answer, so of all that are alike to it there
+-- an edge from a place at which the module with this number is asked, and from which `runs` is left: it has the class of an answer
+-- that the module is allowed, which is all answers that are alike to it there, and leads to where the run goes on after that answer
 pub record IsEdgeAt (allows : Allowance) (program : List FlatItem) (keys : List KeyValue) (number : ℕ) (runs : Runs) (edge : Edge) : Type 0 where
   pub code : ℕ
   pub is_code : code < 31
@@ -51,7 +51,7 @@ pub record IsEdgeAt (allows : Allowance) (program : List FlatItem) (keys : List 
   pub class : edge.class ≡ class_of (next_ask runs) code
   pub leads : GoesOnAt program keys (after_answer runs code) edge.target
 
--- so does each edge of the nodes at the places with these keys; `all` are those of all nodes
+-- the same of each edge of the nodes at these keys; `all` are the keys of all nodes
 unfoldable pub AreEdgesAt : Allowance → List FlatItem → List KeyValue → List KeyValue → List Node → Type 0
 AreEdgesAt allows program all [] [] = Unit {0}
 AreEdgesAt allows program all (key ∷ keys) (node ∷ nodes) =

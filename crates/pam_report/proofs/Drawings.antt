@@ -20,7 +20,7 @@ pub graph-is : (items : Items) (known : Known) (allows : Allowance) (graph : Gra
     → FindsGraph (may_answer known) items (Ok graph) → IsGraphOf items allows graph
 graph-is items known allows graph agree found = record {
   listing = same_listing (module_count items) (may_answer known) allows (path_through items) _ agree found.0;
-  nodes = (found.1.0, may_answer known, found.1.1, agree, found.1.2);
+  edges = (found.1.0, may_answer known, found.1.1, agree, found.1.2);
 }
 
 module _ (format : GraphFormat) (service : List ℕ) (kind : Kind) (items : Items) (graph : GraphValue) where

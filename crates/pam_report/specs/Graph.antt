@@ -5,7 +5,7 @@ use Rattle.pam_conf.specs.declared.rule.Kind.{Kind}
 use Rattle.pam_dispatch.specs.Flat.{runs_of}
 use Rattle.pam_dispatch.specs.Tree.{runs_of_stack}
 use Rattle.pam_dispatch.specs.declared.flat_item.FlatItem.{FlatItem}
-use Rattle.pam_graph.specs.Places.{AreNodesOf}
+use Rattle.pam_graph.specs.Places.{AreEdgesOf}
 use Rattle.pam_graph.specs.Walks.{GraphValue, walks}
 use Rattle.pam_known.specs.Knowledge.{Agree}
 use Rattle.pam_paths.specs.Listing.{Allowance, IsListing}
@@ -20,16 +20,16 @@ use Rattle.pam_report.specs.declared.report.graph.TheConstants.{MAX_PICTURE_NODE
 use Rattle.pam_report.specs.declared.fault.Fault.TheVariants as faults
 
 -- the nodes of a graph are at places of their own, to which runs of a stack come if modules return codes that are allowed,
--- with their modules and states
-abbrev pub AreNodesOfStack : Items → Allowance → GraphValue → Type 0
-AreNodesOfStack items allows graph =
+-- with their modules and states, and its edges lead where the runs go on after these codes
+abbrev pub AreEdgesOfStack : Items → Allowance → GraphValue → Type 0
+AreEdgesOfStack items allows graph =
     (program : List FlatItem) × (other : Allowance) × (runs_of program ≡ runs_of_stack items) × Agree (module_count items) other allows
-    × AreNodesOf other program graph.nodes
+    × AreEdgesOf other program graph
 
 -- A GRAPH of the runs of a stack, if modules return codes that are allowed: its walks are the paths, in their order
 pub record IsGraphOf (items : Items) (allows : Allowance) (graph : GraphValue) : Type 0 where
   pub listing : IsListing allows (module_count items) (path_through items) (walks graph)
-  pub nodes : AreNodesOfStack items allows graph
+  pub edges : AreEdgesOfStack items allows graph
 
 -- a picture of so many nodes could not be read
 abbrev pub has_too_many : GraphFormat → GraphValue → Bool

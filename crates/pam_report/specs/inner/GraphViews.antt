@@ -4,7 +4,7 @@ use Rattle.pam_conf.specs.Stack.{Items, module_count}
 use Rattle.pam_dispatch.specs.Flat.{runs_of}
 use Rattle.pam_dispatch.specs.Tree.{runs_of_stack}
 use Rattle.pam_dispatch.specs.declared.flat_item.FlatItem.{FlatItem}
-use Rattle.pam_graph.specs.Places.{AreNodesOf}
+use Rattle.pam_graph.specs.Places.{AreEdgesOf}
 use Rattle.pam_graph.specs.Reached.{HasMorePlaces}
 use Rattle.pam_graph.specs.Walks.{GraphValue, walks}
 use Rattle.pam_graph.specs.declared.graph.TheConstants.{MAX_NODES}
@@ -18,7 +18,7 @@ use Rattle.pam_report.specs.declared.fault.Fault.TheVariants as faults
 abbrev pub FindsGraph : Allowance → Items → Result GraphValue Fault → Type 0
 FindsGraph allows items (Ok graph) =
     IsListing allows (module_count items) (path_through items) (walks graph)
-    × ((program : List FlatItem) × (runs_of program ≡ runs_of_stack items) × AreNodesOf allows program graph.nodes)
+    × ((program : List FlatItem) × (runs_of program ≡ runs_of_stack items) × AreEdgesOf allows program graph)
 FindsGraph allows items (Err faults.Memory) = ⊤
 FindsGraph allows items (Err faults.TooManyStates) =
     (program : List FlatItem) × (runs_of program ≡ runs_of_stack items) × HasMorePlaces MAX_NODES allows program
