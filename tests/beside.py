@@ -1,4 +1,4 @@
-"""The two ways in which the program finds paths, beside each other on drawn stacks: `paths` explores them one after another,
+"""The two ways in which the program finds paths, side by side on drawn stacks: `paths` explores them one after another,
 `paths --decision` with every decision follows the graph of the run, and `outcomes` counts over it.
 
 All pages of both must be the same, from the start, after a cursor and before one; and the lines of `outcomes` must be what
