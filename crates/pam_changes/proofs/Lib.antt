@@ -1,6 +1,11 @@
 pub mod Alike
+pub mod Asking
 pub mod Listing
 pub mod Merging
+pub mod Ordered
+pub mod PairsShown
+pub mod Rising
 pub mod Sameness
+pub mod Showing
 pub mod Stacked
 pub mod Told

@@ -1,3 +1,4 @@
+pub mod Asked
 pub mod Changes
 pub mod Counts
 pub mod Known

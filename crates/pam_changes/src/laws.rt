@@ -1,6 +1,7 @@
 //! Laws of the definitions that the contracts cite: each is the contract of an empty function.
 
-ghost use Rattle.pam_changes.specs.Laws.{EqualStacksAreKnownAlike, SameItemsAreKnownAlike, SameItemsDecideAlike};
+ghost use Rattle.pam_changes.specs.Laws.{AskedAreShownOnce, AskedOfPairIsShownOnce, EqualStacksAreKnownAlike, SameItemsAreKnownAlike};
+ghost use Rattle.pam_changes.specs.Laws.{SameItemsDecideAlike};
 
 /// Stacks with the same items decide alike, whatever their modules answer, and the same is known of their modules. So nothing
 /// changes where stacks are equal, and what a pair of stacks says holds for every stack with its items.
@@ -8,4 +9,11 @@ pub fn same_items()
     ensures decide { SameItemsDecideAlike }
     ensures known { SameItemsAreKnownAlike }
     ensures equal { EqualStacksAreKnownAlike }
+{}
+
+/// Of the modules that either of two stacks asks, each is shown once and with its answer, and no other module is shown. Those that are
+/// matched and answer alike are shown as one.
+pub fn asked_modules()
+    ensures asked { AskedAreShownOnce }
+    ensures pair { AskedOfPairIsShownOnce }
 {}
