@@ -30,13 +30,18 @@ pub struct Soundness {
 
 /// What the graphs of a stack's runs tell of it.
 #[derive(Drop)]
-struct Told {
+struct Searched {
     reached: Reached,
     lets_anybody_in: Option<Path>,
 }
 
-impl Told {
-    fn of(alloc: Global, stack: &Stack, free: &Known, failing: &Known) -> Result<Told, GraphError>
+impl Searched {
+    fn of(
+        alloc: Global,
+        stack: &Stack,
+        free: &Known,
+        failing: &Known,
+    ) -> Result<Searched, GraphError>
         ensures nobody { IfOk result (λ t. SaysNobody (may_answer free.now) stack.now t.reached.lets_nobody_in) }
         ensures anybody { IfOk result (λ t. SaysWayIn (may_answer failing.now) stack.now t.lets_anybody_in) }
         ensures asked { IfOk result (λ t. AreMarks (may_answer free.now) stack.now t.reached.asked) }
@@ -45,7 +50,7 @@ impl Told {
         let program = Program::of(alloc, stack)?;
         let reached = Reached::of(alloc, &program, free)?;
         let lets_anybody_in = first_way_in(alloc, &program, failing)?;
-        Ok(Told {
+        Ok(Searched {
             reached,
             lets_anybody_in,
         })
@@ -68,12 +73,12 @@ impl Soundness {
         ensures jumps { IfOk result (λ s. AreExactly (JumpsPastEnd (may_answer free.now) stack.now) s.jumps_past_end.items) }
         ensures reason { IfErr result (IsReasonFor (may_answer free.now) (may_answer failing.now) stack.now) }
     {
-        let told = Told::of(alloc, stack, free, failing)?;
-        let never_asked = unmarked(alloc, &told.reached.asked, stack.modules())?;
-        let jumps_past_end = passing(alloc, stack, free, &told.reached.asked)?;
+        let searched = Searched::of(alloc, stack, free, failing)?;
+        let never_asked = unmarked(alloc, &searched.reached.asked, stack.modules())?;
+        let jumps_past_end = passing(alloc, stack, free, &searched.reached.asked)?;
         Ok(Soundness {
-            lets_nobody_in: told.reached.lets_nobody_in,
-            lets_anybody_in: told.lets_anybody_in,
+            lets_nobody_in: searched.reached.lets_nobody_in,
+            lets_anybody_in: searched.lets_anybody_in,
             never_asked,
             jumps_past_end,
         })

@@ -8,8 +8,8 @@ use Rattle.pam_check.proofs.soundness.Soundness.of.Goals as goal
 
 pub returns-clause-never_asked : goal.returns-clause-never_asked
 returns-clause-never_asked c =
-    let marks = c.in_ok-told.told.reached.asked in
-    exactly-never (may_answer c.args.free.now) c.args.stack.now marks c.in_ok-told.ensures.asked (λ m first last. some_code c.args.free.now m)
+    let marks = c.in_ok-searched.searched.reached.asked in
+    exactly-never (may_answer c.args.free.now) c.args.stack.now marks c.in_ok-searched.ensures.asked (λ m first last. some_code c.args.free.now m)
     c.in_ok-never_asked.never_asked.items
     (c.in_ok-never_asked.ensures
     ∙ ap (λ (n : ℕ). filter (λ number. not (mark_of marks number)) (range_with_len 1 n)) c.modules.ensures.count)

@@ -1,7 +1,7 @@
 use Rattle.std.proofs.lemmas.Result.{err_from_is_err_and}
 use Rattle.pam_paths.specs.Known.{may_answer}
 use Rattle.pam_check.proofs.Reasons.{failing-reason, free-reason}
-use Rattle.pam_check.proofs.soundness.Told.of.Goals as goal
+use Rattle.pam_check.proofs.soundness.Searched.of.Goals as goal
 
 pub returns-in_err-reached-clause-reason : goal.returns-in_err-reached-clause-reason
 returns-in_err-reached-clause-reason c =
