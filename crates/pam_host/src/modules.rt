@@ -123,7 +123,7 @@ pub(crate) fn push_jumps(
 fn is_listed(number: usize, numbers: &[usize]) -> bool
     ensures { result ≡ list_any (λ listed. listed == number) numbers.now }
 {
-    numbers.iter().any(|listed| *listed == number)
+    numbers.contains(&number)
 }
 
 /// Appends S3 of the module with this number, unless it is one of these.
