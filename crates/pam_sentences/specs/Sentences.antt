@@ -60,7 +60,9 @@ abbrev pub unreachable_sentence : List ℕ
 unreachable_sentence = codes "services are looked up in lowercase, so no program finds this file; write its name in lowercase"
 
 abbrev pub large_sentence : List ℕ
-large_sentence = codes " can come to more than 65,536 places, so it is not known whether it lets nobody or anybody in; use include in place of substack where done, die and reset need not stay inside"
+large_sentence =
+    codes " can come to more than 65,536 places, so it is not known whether it lets nobody or anybody in; "
+    ++ codes "use include in place of substack where done, die and reset need not stay inside"
 
 abbrev pub other_sentence : List ℕ
 other_sentence = codes " has no rules of its own, so those of other decide; write rules for it"
