@@ -3,6 +3,7 @@ pub mod Asking
 pub mod FileNames
 pub mod Foldered
 pub mod Jumping
+pub mod LettingIn
 pub mod Listed
 pub mod Meeting
 pub mod NameSteps

@@ -1,24 +1,26 @@
 -- What the definitions imply.
-use Rattle.std.specs.Prelude.{◌≡◌, ℕ, ◌<◌, All, List, length, Option, Ok}
+use Rattle.std.specs.Prelude.{◌≡◌, ℕ, ◌<◌, All, List, length, map, slice_index_or, Option, Some, None, Ok}
 use Rattle.std.specs.BTreeMap.{BTreeMap}
-use Rattle.pam_check.specs.Soundness.{LetsIn}
+use Rattle.pam_check.specs.Soundness.{IsFirstWayIn, LetsIn}
 use Rattle.pam_conf.specs.Resolution.{resolved}
-use Rattle.pam_conf.specs.Stack.{Items, module_count}
+use Rattle.pam_conf.specs.Stack.{IsNumbered, Items, module_count}
 use Rattle.pam_conf.specs.declared.rule.Kind.{Kind}
 use Rattle.pam_conf.specs.declared.rule.Kind.TheVariants.{Auth}
 use Rattle.pam_dispatch.specs.Runs.{Assignment}
-use Rattle.pam_dispatch.specs.State.{success}
-use Rattle.pam_dispatch.specs.Tree.{decided}
+use Rattle.pam_dispatch.specs.State.{start_state, success}
+use Rattle.pam_dispatch.specs.Tree.{asked, decided}
 use Rattle.pam_paths.specs.Known.{may_answer}
-use Rattle.pam_paths.specs.Listing.{IsAllowed}
+use Rattle.pam_paths.specs.Listing.{Allowance, IsAllowed}
+use Rattle.pam_paths.specs.Paths.{PathValue}
 use Rattle.pam_paths.specs.declared.knowledge.Known.{Known}
 use Rattle.pam_host.specs.Host.{Host, service_at}
 use Rattle.pam_host.specs.Levels.{level_of}
 use Rattle.pam_host.specs.Report.{IsReportOn}
-use Rattle.pam_host.specs.Verdicts.{HasOther, IsFailing, IsFree}
+use Rattle.pam_host.specs.Verdicts.{HasOther, IsFailing, IsFree, answers_on}
 use Rattle.pam_host.specs.declared.level.Level.TheVariants.{Note}
 use Rattle.pam_host.specs.declared.problem.Place.{Place}
 use Rattle.pam_host.specs.declared.report.Finding.{Finding}
+use Rattle.pam_host.specs.declared.way_in.Answered.{Answered}
 use Rattle.pam_host.specs.declared.way_in.WayIn.{WayIn}
 
 -- no finding is at or above warning
@@ -43,3 +45,35 @@ SilentHostIsSound =
     (host : Host) (named : List (List ℕ)) (found : BTreeMap Place Finding) (ways : List (Option WayIn)) →
     IsReportOn host named found ways → IsSilent found →
     (service : ℕ) (kind : Kind) → service < length host.services → IsSoundStack host service kind
+
+-- the modules that a stack asks, in order, with their answers
+abbrev pub answers_given : Items → Assignment → List Answered
+answers_given items answers =
+    map (λ ask. let a : Answered = record { number = ask.module_number; code = answers ask.module_number } in a) (asked items start_state start_state answers)
+
+-- THESE ANSWERS LET SOMEBODY IN: they are those of the modules that the stack asks, in order, under answers that are allowed, and it
+-- decides success
+pub record LetIn (allows : Allowance) (items : Items) (given : List Answered) : Type 0 where
+  pub answers : Assignment
+  pub allowed : IsAllowed allows (module_count items) answers
+  pub are_given : answers_given items answers ≡ given
+  pub decides : decided items answers ≡ success
+
+-- the answers on the first way in let somebody in
+abbrev pub FirstWayLetsIn : Type 0
+FirstWayLetsIn =
+    (allows : Allowance) (items : Items) (path : PathValue) → IsNumbered items → IsFirstWayIn allows items path →
+    LetIn allows items (answers_on allows path)
+
+-- a way in is the stack of its service for auth, and its answers let somebody in although each module that checks who logs in fails
+pub record IsTrueWayIn (host : Host) (service : ℕ) (way : WayIn) : Type 0 where
+  pub stack : resolved host.folder (service_at host service) Auth ≡ Ok way.stack
+  pub failing : Known
+  pub is_failing : IsFailing host.modules Auth way.stack failing
+  pub let_in : LetIn (may_answer failing) way.stack way.answers.items
+
+-- each way in of a report is such
+abbrev pub WaysInLetIn : Type 0
+WaysInLetIn =
+    (host : Host) (named : List (List ℕ)) (found : BTreeMap Place Finding) (ways : List (Option WayIn)) → IsReportOn host named found ways →
+    (service : ℕ) (way : WayIn) → service < length host.services → slice_index_or ways service None ≡ Some way → IsTrueWayIn host service way

@@ -107,6 +107,16 @@ finding-from_place one other h =
     ∙ ap (λ (x : ℕ). let f : TableFinding = record { table = other.table; line = x; problem = one.problem } in f) line
     ∙ ap (λ (x : TableProblem). let f : TableFinding = record { table = other.table; line = other.line; problem = x } in f) problem
 
+-- the same of a place by its parts
+pub apart-by-parts : (one other : TableFinding) (table rank : ℕ) → table ≡ rank_of_table one.table → rank ≡ rank_of one.problem →
+    place_of other ≡ record { table = table; line = one.line; rank = rank } → other ≡ one
+unfolding place_of
+apart-by-parts one other table rank table_is rank_is same =
+    finding-from_place other one
+    (same
+    ∙ ap (λ (x : ℕ). let p : TablePlace = record { table = x; line = one.line; rank = rank } in p) table_is
+    ∙ ap (λ (x : ℕ). let p : TablePlace = record { table = rank_of_table one.table; line = one.line; rank = x } in p) rank_is)
+
 -- THE ORDER OF PLACES
 
 parts_cmp : (x y : ℕ × (ℕ × ℕ)) → Ordering

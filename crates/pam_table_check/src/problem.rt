@@ -130,10 +130,11 @@ impl TableProblem {
 }
 
 impl TableFinding {
-    /// The place of the problem.
+    /// The place of the problem. Two problems have two places.
     #[tactic(auto, unfolding(crate::specs::Problems::place_of))]
     pub fn place(self) -> TablePlace
-        ensures { result ≡ place_of self }
+        ensures value { result ≡ place_of self }
+        ensures apart { (other : TableFinding) → place_of other ≡ result → other ≡ self }
     {
         TablePlace {
             table: self.table.rank(),

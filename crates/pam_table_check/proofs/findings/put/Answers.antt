@@ -3,4 +3,4 @@ use Rattle.pam_table_check.proofs.findings.put.Goals as goal
 
 pub returns : goal.returns
 returns c =
-    put-one c.args.found.now c.insert.new.self c.args.finding c.place.result c.place.ensures c.in_ok-insert.ensures.updates
+    put-one c.args.found.now c.insert.new.self c.args.finding c.place.result c.place.ensures.value c.in_ok-insert.ensures.updates
