@@ -5,6 +5,7 @@ use Rattle.pam_dispatch.specs.declared.flat_item.FlatItem.{FlatItem}
 use Rattle.pam_dispatch.specs.Flat.{runs_of}
 use Rattle.pam_dispatch.specs.Runs.{Assignment, Runs, asked_module}
 use Rattle.pam_paths.specs.Listing.{Allowance}
+use Rattle.pam_compare.specs.declared.comparing.TheConstants.{MAX_SITUATIONS}
 use Rattle.pam_compare.specs.declared.held.HeldAnswer.{HeldAnswer}
 use Rattle.pam_compare.specs.Situations.{HasMoreSituations}
 use Rattle.pam_compare.specs.Walks.{IsAfter, Order}
@@ -23,3 +24,7 @@ HeldOnce =
     (answers : List HeldAnswer) (left right : Runs) (held : List HeldAnswer) →
     IsAfter old new names possible old_first old_answers new_answers answers left right held →
     AllPairs (λ one other. one.name ≢ other.name) held
+
+-- at most a million situations are looked at
+abbrev pub MostSituations : Type 0
+MostSituations = MAX_SITUATIONS ≡ 1000000

@@ -1,6 +1,6 @@
 //! Laws of the definitions that the contracts cite: each is the contract of an empty function.
 
-ghost use Rattle.pam_compare.specs.Laws.{HeldOnce, OneSituation};
+ghost use Rattle.pam_compare.specs.Laws.{HeldOnce, MostSituations, OneSituation};
 
 /// Two stacks that ask no module have no more than one situation.
 pub fn one_situation()
@@ -10,4 +10,9 @@ pub fn one_situation()
 /// Wherever the walk of two stacks is, it holds one answer of each module at most.
 pub fn held_once()
     ensures { HeldOnce }
+{}
+
+/// A comparison looks at no more than a million situations.
+pub fn most_situations()
+    ensures { MostSituations }
 {}
