@@ -60,15 +60,7 @@ impl StackPair {
 fn is_same(one: Verdict, other: Verdict) -> bool
     ensures { result ≡ same_verdict one other }
 {
-    match (one, other) {
-        (Verdict::NoStack, Verdict::NoStack) => true,
-        (Verdict::Equal, Verdict::Equal) => true,
-        (Verdict::SameDecisions, Verdict::SameDecisions) => true,
-        (Verdict::Changed, Verdict::Changed) => true,
-        (Verdict::NotKnown, Verdict::NotKnown) => true,
-        (Verdict::Refused, Verdict::Refused) => true,
-        _ => false,
-    }
+    one == other
 }
 
 /// The number of services that only the old configuration has, if `in_old`; else the number that only the new one has.

@@ -82,10 +82,7 @@ fn told_at(
         result ≡ told_at known.returns known.settings (option_map (λ t. t.now) there.entry) stack.now number }
     ensures some { IfSome result (λ codes. codes ≢ []) }
 {
-    match stack.module(number) {
-        Some(module) => codes_told(sides, there, module),
-        None => None,
-    }
+    codes_told(sides, there, stack.module(number)?)
 }
 
 /// Sets the codes of the modules for which codes are set, or that have a line in the returns file.

@@ -125,10 +125,7 @@ fn is_absent(fault: Option<ConfError>) -> bool
 fn fault_of(resolved: Resolved) -> Option<ConfError>
     ensures { result ≡ fault_in resolved }
 {
-    match resolved {
-        Ok(_) => None,
-        Err(fault) => Some(fault),
-    }
+    resolved.err()
 }
 
 /// What changes where at least one configuration refuses the service.

@@ -61,16 +61,13 @@ fn asked_numbers(alloc: Global, program: &Program, codes: &[Code]) -> Result<Vec
 fn is_listed(number: usize, numbers: &[usize]) -> bool
     ensures { result ≡ is_listed number numbers.now }
 {
-    numbers.iter().any(|listed| *listed == number)
+    numbers.contains(&number)
 }
 
 fn is_number(number: usize, other: Option<usize>) -> bool
     ensures { result ≡ is_number number other }
 {
-    match other {
-        Some(other) => other == number,
-        None => false,
-    }
+    other == Some(number)
 }
 
 impl Answered<'_> {
