@@ -4,18 +4,18 @@ use Rattle.std.specs.Option.{option_map_or}
 use Rattle.std.specs.List.{concat}
 use Rattle.pam_codes.specs.SetText.{name_of, set_text}
 use Rattle.pam_codes.specs.declared.code.TheConstants.{CODES}
-use Rattle.pam_picture.specs.declared.label.TheConstants.{FEW, MOST}
+use Rattle.pam_picture.specs.declared.label.TheConstants.{MAX_NAMED_CODES, MIN_ELSE_CODES}
 
 -- a class of so many codes is every answer but a few, and no other class of its node has as many
 abbrev pub has_else : List ℕ → Bool
-has_else class = nat_le MOST (length class) && nat_lt (length class) CODES
+has_else class = nat_le MIN_ELSE_CODES (length class) && nat_lt (length class) CODES
 
-abbrev pub is_told : List ℕ → Bool
-is_told class = nat_le (length class) FEW
+abbrev pub is_named : List ℕ → Bool
+is_named class = nat_le (length class) MAX_NAMED_CODES
 
 -- the codes of a class are told below the picture
 abbrev pub has_note : List ℕ → Bool
-has_note class = nat_lt FEW (length class) && nat_lt (length class) MOST
+has_note class = nat_lt MAX_NAMED_CODES (length class) && nat_lt (length class) MIN_ELSE_CODES
 
 abbrev pub first_name : List ℕ → List ℕ
 first_name class = option_map_or name_of (slice_get class 0) []
@@ -33,6 +33,6 @@ else_text false = []
 unfoldable pub label_text : Bool → List ℕ → ℕ → List ℕ
 label_text forked class note =
     if has_else class then else_text forked
-    else if is_told class then set_text class
+    else if is_named class then set_text class
     else if has_note class then noted_label class note
     else []

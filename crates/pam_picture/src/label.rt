@@ -4,37 +4,37 @@ ghost use Rattle.std.specs.Prelude.{◌≡◌, ◌<◌, true};
 ghost use Rattle.pam_codes.specs.Out.{Writes};
 ghost use Rattle.pam_codes.specs.SetText.{name_of};
 ghost use Rattle.pam_codes.specs.declared.code.TheConstants.{CODES};
-ghost use Rattle.pam_picture.specs.Labels.{else_text, first_name, has_else, has_note, is_told, label_text, noted_label};
+ghost use Rattle.pam_picture.specs.Labels.{else_text, first_name, has_else, has_note, is_named, label_text, noted_label};
 
 use pam_codes::{CODES, Code, CodeSet, Device, Out, Piece};
 use pam_drawing::name_of;
 use std::io::Write;
 
 /// The least number of codes of a class that is shown as `else`. No two classes of a node have as many.
-pub(crate) const MOST: usize = 16;
+pub(crate) const MIN_ELSE_CODES: usize = 16;
 
 /// The most codes of a class whose label is its text.
-pub(crate) const FEW: usize = 2;
+pub(crate) const MAX_NAMED_CODES: usize = 2;
 
 /// Whether the label of a class is `else`.
 pub(crate) fn is_else(class: CodeSet) -> bool
     ensures { result ≡ has_else class }
 {
-    MOST <= class.len() && class.len() < CODES
+    MIN_ELSE_CODES <= class.len() && class.len() < CODES
 }
 
 /// Whether the label of a class is its text.
-pub(crate) fn is_told(class: CodeSet) -> bool
-    ensures { result ≡ is_told class }
+pub(crate) fn is_named(class: CodeSet) -> bool
+    ensures { result ≡ is_named class }
 {
-    class.len() <= FEW
+    class.len() <= MAX_NAMED_CODES
 }
 
 /// Whether a class is shown in a note below the picture.
 pub(crate) fn is_noted(class: CodeSet) -> bool
     ensures { result ≡ has_note class }
 {
-    FEW < class.len() && class.len() < MOST
+    MAX_NAMED_CODES < class.len() && class.len() < MIN_ELSE_CODES
 }
 
 /// Returns the name of the least code.
@@ -82,7 +82,7 @@ pub(crate) fn put_label<W: Write>(
     if is_else(class) {
         return out.put(else_text(forked));
     }
-    if is_told(class) {
+    if is_named(class) {
         return class.write_text(out);
     }
     if is_noted(class) {

@@ -69,7 +69,7 @@ const ARROW: usize = 12;
 const NUMBER: usize = 6;
 
 /// The least width of a picture, for the line below it.
-const LEAST: usize = 620;
+const MIN_WIDTH: usize = 620;
 
 /// Where the shapes of a picture are, in pixels.
 #[derive(Drop)]
@@ -181,7 +181,7 @@ fn width_of(graph: &Graph, ends: &[EndPlace], noted: &[CodeSet], least: usize) -
 fn least_width(title: &[u8]) -> usize {
     bold_width(title)
         .saturating_add(MARGIN.saturating_mul(2))
-        .max(LEAST)
+        .max(MIN_WIDTH)
 }
 
 /// How wide a picture is at least, where the headings begin, where the lanes begin and end, and how many columns there are.

@@ -5,7 +5,7 @@ use super::controls::longest_row;
 use super::table::number_at;
 use super::turns::Turns;
 use crate::heading::name_front;
-use crate::label::{is_else, is_told};
+use crate::label::{is_else, is_named};
 use pam_codes::{CODES, Code, CodeSet, Out};
 use pam_conf::Stack;
 use pam_drawing::{ascii_byte, name_at, name_of};
@@ -73,7 +73,7 @@ fn label_width(class: CodeSet) -> usize {
     }
     let characters = if is_else(class) {
         ELSE
-    } else if is_told(class) {
+    } else if is_named(class) {
         letters_of_class(class)
     } else {
         letters(class.least()).saturating_add(NOTED)
