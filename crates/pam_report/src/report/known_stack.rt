@@ -153,7 +153,10 @@ fn known_to(
 
 /// Returns the stack, and the codes that its modules may return by tables and the returns file, or the first fault: of the
 /// configuration, then of the moment, then of the tables.
-fn told_stack(sources: &Sources<'_, '_>, request: &StackRequest<'_>) -> Result<KnownStack, Fault>
+fn stack_by_tables(
+    sources: &Sources<'_, '_>,
+    request: &StackRequest<'_>,
+) -> Result<KnownStack, Fault>
     ensures stack { FindsStack result (stack_known request.now.kind (login_at request.now.service.now request.now.login) sources.now.inputs.now
         sources.now.moment (resolved sources.now.files.now request.now.service.now request.now.kind)) }
     ensures wants { IfErr result (IsWanting (of_paths (paths_tables (is_some sources.now.moment) sources.now.inputs.now))) }
@@ -183,7 +186,7 @@ pub(super) fn known_stack(
     ensures stack { FindsStack result (stack_from sources.now request.now) }
     ensures wants { IfErr result (IsWanting (of_paths (paths_tables (is_some sources.now.moment) sources.now.inputs.now))) }
 {
-    match told_stack(sources, request) {
+    match stack_by_tables(sources, request) {
         Ok(found) => {
             with_settings(
                 sources.files,
