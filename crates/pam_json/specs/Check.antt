@@ -3,6 +3,7 @@ use Rattle.std.specs.Prelude.{ℕ, ◌==◌, Bool, true, false, List, [], ◌∷
 use Rattle.std.specs.Prelude.{if◌then◌else◌}
 use Rattle.std.specs.List.{after_first, before_first}
 use Rattle.std.specs.Option.{option_map_or}
+use Rattle.pam_codes.specs.SetText.{name_of}
 use Rattle.pam_conf.specs.Stack.{Items}
 use Rattle.pam_conf.specs.declared.rule.Kind.{Kind}
 use Rattle.pam_conf.specs.declared.rule.Kind.TheVariants.{Auth, Account, Password, Session}
@@ -30,7 +31,7 @@ use Rattle.pam_report.specs.TablePaths.{TablePathsText, level_of_table_problem, 
 use Rattle.pam_sentences.specs.Sentences.{level_name, unused_sentence}
 use Rattle.pam_table_check.specs.declared.problem.TableFinding.{TableFinding}
 use Rattle.serde_json.specs.Data.{Data, array, no_items, number, object, string, unsigned}
-use Rattle.pam_json.specs.Header.{code_name, is_space, kind_name}
+use Rattle.pam_json.specs.Header.{is_space, kind_name}
 use Rattle.pam_json.specs.Sentences.{said_parts, table_parts}
 
 -- WHERE AND WHAT
@@ -85,7 +86,7 @@ service_count met = option_map_or (λ m. m.services) met 0
 unfoldable pub answer_object : Items → Answered → Data
 answer_object items answer =
     object (members_of ((codes "number", number (unsigned answer.number)) ∷ (codes "module", readable (name_of_path (path_at answer.number items)))
-    ∷ (codes "code", string (code_name answer.code)) ∷ []))
+    ∷ (codes "code", string (name_of answer.code)) ∷ []))
 
 abbrev pub way_array : Option WayIn → Data
 way_array way = array (option_map_or (λ w. items_of (map (answer_object w.stack) w.answers.items)) way no_items)

@@ -8,6 +8,7 @@ use Rattle.pam_changes.specs.declared.pair.Shown.{Shown}
 use Rattle.pam_changes.specs.declared.pair.StackPair.{StackPair}
 use Rattle.pam_changes.specs.declared.steps.AskedModule.{AskedModule}
 use Rattle.pam_changes.specs.declared.steps.AskedModule.TheVariants.{Old, New, Both}
+use Rattle.pam_codes.specs.SetText.{name_of}
 use Rattle.pam_compare.specs.declared.comparing.TheConstants.{MAX_SITUATIONS}
 use Rattle.pam_conf.specs.Files.{Folder}
 use Rattle.pam_conf.specs.Stack.{Items, module_at}
@@ -20,7 +21,7 @@ use Rattle.pam_report.specs.Fault.{file_at}
 use Rattle.pam_report.specs.FaultTable.{conf_row}
 use Rattle.pam_report.specs.Reply.{CompareValue}
 use Rattle.serde_json.specs.Data.{Data, array, null, number, object, string, unsigned}
-use Rattle.pam_json.specs.Header.{code_name, is_space, kind_name}
+use Rattle.pam_json.specs.Header.{is_space, kind_name}
 
 -- A STACK
 
@@ -48,7 +49,7 @@ arguments_array items which = option_map_or (λ m. strings m.arguments) (module_
 -- a module that is asked in the stack of a configuration, and its answer
 unfoldable pub asked_object : List ℕ → Items → ℕ → ℕ → Data
 asked_object configuration items which code =
-    object (members_of ((codes "configuration", string configuration) ∷ module_members items which ((codes "code", string (code_name code)) ∷ [])))
+    object (members_of ((codes "configuration", string configuration) ∷ module_members items which ((codes "code", string (name_of code)) ∷ [])))
 
 -- one that only a stack has, or that is in both
 abbrev pub step_object : StackPair → AskedModule → Data
@@ -64,7 +65,7 @@ steps_array pair asked = array (items_of (map (step_object pair) asked))
 abbrev pub change_members : Head → StackPair → List ℕ → Shown → List (List ℕ × Data)
 change_members head pair change shown =
     head_members (codes "change") head
-    ((codes "change", string change) ∷ (codes "old", string (code_name shown.witness.old)) ∷ (codes "new", string (code_name shown.witness.new))
+    ((codes "change", string change) ∷ (codes "old", string (name_of shown.witness.old)) ∷ (codes "new", string (name_of shown.witness.new))
     ∷ (codes "steps", steps_array pair shown.asked.items) ∷ [])
 
 unfoldable pub change_json : Head → StackPair → List ℕ → Shown → List ℕ

@@ -2,20 +2,15 @@
 use Rattle.std.specs.Prelude.{ℕ, List, [], ◌∷◌, ◌++◌, codes, Option, None, Some}
 use Rattle.std.specs.List.{flat_map}
 use Rattle.std.specs.Str.Lossy.{utf8_lossy}
+use Rattle.pam_codes.specs.SetText.{name_of}
 use Rattle.pam_codes.specs.declared.action.Action.{Action}
 use Rattle.pam_codes.specs.declared.action.Action.TheVariants as actions
-use Rattle.pam_dispatch.specs.declared.state.Impression.{Impression}
-use Rattle.pam_dispatch.specs.declared.state.Impression.TheVariants.{Undef, Positive, Negative}
+use Rattle.pam_drawing.specs.Drawing.{impression_name}
 use Rattle.pam_json_lines.specs.Line.{kind, line, number_or_null}
 use Rattle.pam_report.specs.Decide.{AskedModule}
 use Rattle.pam_report.specs.Reply.{RunValue}
 use Rattle.serde_json.specs.Data.{Data, number, string, unsigned}
-use Rattle.pam_json.specs.Header.{code_name, stack_members}
-
-abbrev pub impression_name : Impression → List ℕ
-impression_name Undef = codes "undef"
-impression_name Positive = codes "positive"
-impression_name Negative = codes "negative"
+use Rattle.pam_json.specs.Header.{stack_members}
 
 abbrev pub action_name : Action → List ℕ
 action_name actions.Ignore = codes "ignore"
@@ -35,8 +30,8 @@ jump_of action = None
 abbrev pub step_members : AskedModule → List (List ℕ × Data)
 step_members m =
     kind (codes "step") ∷ (codes "number", number (unsigned m.number)) ∷ (codes "path", string (utf8_lossy m.path))
-    ∷ (codes "code", string (code_name m.code)) ∷ (codes "action", string (action_name m.action)) ∷ (codes "jump", number_or_null (jump_of m.action))
-    ∷ (codes "impression", string (impression_name m.state.impression)) ∷ (codes "status", string (code_name m.state.status)) ∷ []
+    ∷ (codes "code", string (name_of m.code)) ∷ (codes "action", string (action_name m.action)) ∷ (codes "jump", number_or_null (jump_of m.action))
+    ∷ (codes "impression", string (impression_name m.state.impression)) ∷ (codes "status", string (name_of m.state.status)) ∷ []
 
 unfoldable pub step_json : AskedModule → List ℕ
 step_json m = line (step_members m)
@@ -46,7 +41,7 @@ abbrev pub steps_json : List AskedModule → List ℕ
 steps_json asked = flat_map step_json asked
 
 abbrev pub decision_members : ℕ → List (List ℕ × Data)
-decision_members code = kind (codes "decision") ∷ (codes "code", string (code_name code)) ∷ []
+decision_members code = kind (codes "decision") ∷ (codes "code", string (name_of code)) ∷ []
 
 -- THE JSON of `decide`
 abbrev pub run_json : RunValue → List ℕ

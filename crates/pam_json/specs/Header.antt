@@ -4,7 +4,6 @@ use Rattle.std.specs.Char.{to_ascii_lowercase}
 use Rattle.pam_conf.specs.declared.rule.Kind.{Kind}
 use Rattle.pam_json_lines.specs.Line.{kind}
 use Rattle.serde_json.specs.Data.{Data, number, string, unsigned}
-unfoldable pub use Rattle.pam_page.specs.Page.{code_name}
 pub use Rattle.pam_report.specs.Names.{kind_name}
 
 -- the service in lowercase, the kind of the stack as its type, and the number of its modules

@@ -1,12 +1,13 @@
 -- The JSON of `outcomes`: a line for each decision, with the first path that ends in it, and a last line.
 use Rattle.std.specs.Prelude.{ℕ, List, [], ◌∷◌, ◌++◌, codes, Option}
 use Rattle.std.specs.List.{flat_map}
+use Rattle.pam_codes.specs.SetText.{name_of}
 use Rattle.pam_conf.specs.Stack.{Items, module_count}
 use Rattle.pam_json_lines.specs.Line.{kind, line}
 use Rattle.pam_parts.specs.Ways.{count_text}
 use Rattle.pam_report.specs.Reply.{Outcome, OutcomesValue}
 use Rattle.serde_json.specs.Data.{Data, string}
-use Rattle.pam_json.specs.Header.{code_name, stack_members}
+use Rattle.pam_json.specs.Header.{stack_members}
 use Rattle.pam_json.specs.Steps.{cursor_string, steps_array}
 
 -- a number of ways as a string, since it may have 39 digits
@@ -16,7 +17,7 @@ ways count = (codes "ways", string (count_text count))
 -- a decision, the number of ways to it, and the first of them
 abbrev pub outcome_members : Items → Outcome → List (List ℕ × Data)
 outcome_members items outcome =
-    kind (codes "outcome") ∷ (codes "decision", string (code_name outcome.decision)) ∷ ways outcome.count
+    kind (codes "outcome") ∷ (codes "decision", string (name_of outcome.decision)) ∷ ways outcome.count
     ∷ (codes "cursor", cursor_string outcome.first) ∷ (codes "steps", steps_array items outcome.first.steps) ∷ []
 
 unfoldable pub outcome_json : Items → Outcome → List ℕ

@@ -1,5 +1,6 @@
 -- The JSON of `paths`: a line for each path of a page, and a last line.
 use Rattle.std.specs.Prelude.{ℕ, max, List, [], ◌∷◌, ◌++◌, codes, None, Option, Some, Result}
+use Rattle.pam_codes.specs.SetText.{name_of}
 use Rattle.pam_conf.specs.Stack.{Items, module_count}
 use Rattle.pam_json_lines.specs.Line.{kind, line}
 use Rattle.pam_page.specs.Page.{first_page, text_by}
@@ -9,13 +10,13 @@ use Rattle.pam_paths.specs.Paths.{PathValue}
 use Rattle.pam_paths.specs.declared.cursor.CursorError.{CursorError}
 use Rattle.pam_report.specs.Reply.{PageValue}
 use Rattle.serde_json.specs.Data.{Data, null, number, string, unsigned}
-use Rattle.pam_json.specs.Header.{code_name, stack_members}
+use Rattle.pam_json.specs.Header.{stack_members}
 use Rattle.pam_json.specs.Steps.{cursor_string, steps_array}
 
 -- a path: its cursor, its decision and its steps
 abbrev pub path_members : Items → PathValue → List (List ℕ × Data)
 path_members items path =
-    kind (codes "path") ∷ (codes "cursor", cursor_string path) ∷ (codes "decision", string (code_name path.decision))
+    kind (codes "path") ∷ (codes "cursor", cursor_string path) ∷ (codes "decision", string (name_of path.decision))
     ∷ (codes "steps", steps_array items path.steps) ∷ []
 
 unfoldable pub path_json : Items → PathValue → List ℕ

@@ -1,5 +1,6 @@
 -- The steps of a path, and its cursor: the modules that are asked, each with the answers that take the path.
 use Rattle.std.specs.Prelude.{ℕ, List, ◌∷◌, [], codes, map}
+use Rattle.pam_codes.specs.SetText.{name_of}
 use Rattle.pam_conf.specs.Stack.{Items}
 use Rattle.pam_json_lines.specs.Line.{items_of, members_of, readable}
 use Rattle.pam_known.specs.Answers.{name_of_path}
@@ -7,11 +8,10 @@ use Rattle.pam_paths.specs.CursorText.{cursor_text}
 use Rattle.pam_paths.specs.Paths.{PathValue, StepValue, key}
 use Rattle.pam_report.specs.Decide.{path_at}
 use Rattle.serde_json.specs.Data.{Data, array, number, object, string, unsigned}
-use Rattle.pam_json.specs.Header.{code_name}
 
 -- the name of a code as a string
 abbrev pub code_string : ℕ → Data
-code_string code = string (code_name code)
+code_string code = string (name_of code)
 
 abbrev pub code_strings : List ℕ → Data
 code_strings set = array (items_of (map code_string set))

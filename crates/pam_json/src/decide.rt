@@ -3,25 +3,16 @@
 ghost use Rattle.std.specs.Prelude.{◌≡◌, map};
 ghost use Rattle.pam_codes.specs.Out.{Writes, WritesAndFlushes};
 ghost use Rattle.pam_report.specs.ReplyViews.{asked_view, run_view};
-ghost use Rattle.pam_json.specs.Decide.{action_name, decision_members, impression_name, jump_of, run_json, step_json, steps_json};
+ghost use Rattle.pam_json.specs.Decide.{action_name, decision_members, jump_of, run_json, step_json, steps_json};
 ghost use Rattle.pam_json_lines.specs.Line.{line};
 
-use crate::header::{name_of, put_stack};
+use crate::header::put_stack;
 use pam_codes::{Action, Device, Out};
-use pam_dispatch::{Decision, Impression};
+use pam_dispatch::Decision;
+use pam_drawing::{impression_name, name_of};
 use pam_json_lines::{Member, put_line};
 use pam_report::{AskedModule, RunReply};
 use std::io::Write;
-
-fn impression_name(impression: Impression) -> &'static [u8]
-    ensures { result.now ≡ impression_name impression }
-{
-    match impression {
-        Impression::Undef => b"undef",
-        Impression::Positive => b"positive",
-        Impression::Negative => b"negative",
-    }
-}
 
 fn action_name(action: Action) -> &'static [u8]
     ensures { result.now ≡ action_name action }

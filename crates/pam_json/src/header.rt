@@ -3,21 +3,14 @@
 ghost use Rattle.std.specs.Prelude.{◌≡◌};
 ghost use Rattle.std.specs.List.{after_first, before_first};
 ghost use Rattle.pam_codes.specs.Out.{Writes};
-ghost use Rattle.pam_json.specs.Header.{code_name, is_space, stack_members};
+ghost use Rattle.pam_json.specs.Header.{is_space, stack_members};
 ghost use Rattle.pam_json_lines.specs.Line.{line};
 
-use pam_codes::{Code, Device, Out};
+use pam_codes::{Device, Out};
 use pam_conf::Kind;
 use pam_json_lines::{Member, put_line};
 use pam_report::kind_name;
 use std::io::Write;
-
-#[tactic(auto, unfolding(crate::specs::Header::code_name))]
-pub(crate) fn name_of(code: Code) -> &'static [u8]
-    ensures { result.now ≡ code_name code }
-{
-    code.name().as_bytes()
-}
 
 /// Returns the number in a text of a number and a name, as `E15` in `E15 NoService`.
 #[tactic(auto, using(std::proofs::lemmas::Str::Pattern::split_once_first))]

@@ -7,9 +7,10 @@ ghost use Rattle.pam_report.specs.ReplyViews.{outcome_view, outcomes_view};
 ghost use Rattle.pam_json.specs.Outcomes.{outcome_json, outcomes_json, total_members};
 ghost use Rattle.pam_json_lines.specs.Line.{line};
 
-use crate::header::{name_of, put_stack};
+use crate::header::put_stack;
 use crate::steps::PathValue;
 use pam_codes::{Device, Out};
+use pam_drawing::name_of;
 use pam_json_lines::{Member, put_line};
 use pam_parts::ModulePaths;
 use pam_report::{Outcome, OutcomesReply};

@@ -10,12 +10,13 @@ ghost use Rattle.pam_report.specs.Reply.{Page};
 ghost use Rattle.pam_json.specs.Paths.{last_json, page_json, path_json};
 ghost use Rattle.pam_json.specs.Text.{IsJson};
 
-use crate::header::{name_of, put_stack};
+use crate::header::put_stack;
 use crate::steps::PathValue;
 use pam_codes::{Device, Out};
+use pam_drawing::name_of;
 use pam_json_lines::{Member, put_line};
 use pam_page::Listing;
-use pam_parts::{ModulePaths, told};
+use pam_parts::{ModulePaths, with_write_fault};
 use pam_paths::{Cursor, Known, Path};
 use pam_report::{Fault, PageRenderer, PathsPage};
 use std::alloc::Global;
@@ -133,7 +134,7 @@ fn write_listed<W: Write>(
 ) -> Result<(), Fault>
     ensures { FindsPage (page_value page.now) (Ok listing.old) → PrintsBy W.contents IsJson out.old out.new result (Page (page_value page.now)) }
 {
-    told(write_listing(page, listing, out))
+    with_write_fault(write_listing(page, listing, out))
 }
 
 /// Renders a page as JSON.

@@ -9,7 +9,7 @@ use crate::outcomes::write_outcomes;
 use crate::paths::PageJson;
 use crate::tables::{write_access, write_time};
 use pam_codes::Out;
-use pam_parts::{told, write_check, write_compared, write_stack};
+use pam_parts::{with_write_fault, write_check, write_compared, write_stack};
 use pam_report::{Fault, Reply};
 use std::alloc::Global;
 use std::io::Write;
@@ -25,14 +25,14 @@ pub fn print_if_any<W: Write>(
     ensures { PrintsIfAny W.contents out.old out.new result (reply_view reply.now) }
 {
     match reply {
-        Reply::Stack(stack) => Some(told(write_stack(&AsJson, alloc, stack, out))),
-        Reply::Run(run) => Some(told(write_run(run, out))),
-        Reply::Access(answer) => Some(told(write_access(*answer, out))),
-        Reply::Time(answer) => Some(told(write_time(*answer, out))),
-        Reply::Outcomes(outcomes) => Some(told(write_outcomes(outcomes, out))),
+        Reply::Stack(stack) => Some(with_write_fault(write_stack(&AsJson, alloc, stack, out))),
+        Reply::Run(run) => Some(with_write_fault(write_run(run, out))),
+        Reply::Access(answer) => Some(with_write_fault(write_access(*answer, out))),
+        Reply::Time(answer) => Some(with_write_fault(write_time(*answer, out))),
+        Reply::Outcomes(outcomes) => Some(with_write_fault(write_outcomes(outcomes, out))),
         Reply::Paths(page) => Some(PageJson { page }.write(alloc, out)),
         Reply::Check(check) => Some(write_check(&AsJson, alloc, check, out)),
-        Reply::Compared(compared) => Some(told(write_compared(&AsJson, compared, out))),
+        Reply::Compared(compared) => Some(with_write_fault(write_compared(&AsJson, compared, out))),
         _ => None,
     }
 }

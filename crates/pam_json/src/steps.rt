@@ -12,12 +12,12 @@ ghost use Rattle.pam_json.specs.Paths.{next_or_null};
 ghost use Rattle.pam_json.specs.Steps.{code_string, code_strings, step_object, steps_array};
 ghost use Rattle.serde_json.specs.Written.{comma_if, compact_text, items_text};
 
-use crate::header::name_of;
 use itoa::Buffer;
 use pam_codes::{Code, CodeSet, Device, Out};
+use pam_drawing::name_of;
 use pam_json_lines::{Elements, Member, Written, put_array, put_comma, put_object, put_quoted};
 use pam_known::name_of_path;
-use pam_parts::ModulePaths;
+use pam_parts::{ModulePaths, UNCOUNTED};
 use pam_paths::{Cursor, Path, PathStep};
 use std::io::Write;
 
@@ -134,7 +134,7 @@ fn put_ways<W: Write>(count: Option<u128>, out: &mut Out<W>) -> Result<(), Devic
     ensures { Writes W.contents out.old out.new result (quoted (count_text count)) }
 {
     let Some(count) = count else {
-        return put_quoted(b"340282366920938463463374607431768211456+", out);
+        return put_quoted(UNCOUNTED, out);
     };
     let mut buffer = Buffer::new();
     put_quoted(buffer.format(count).as_bytes(), out)

@@ -8,6 +8,7 @@ mod files;
 mod findings;
 mod items;
 mod module_paths;
+mod ways;
 mod writes;
 
 pub use changes::{compared_count, file_of, is_grave, occurrence, service_at};
@@ -19,4 +20,5 @@ pub use files::name_at;
 pub use findings::{CheckLine, CheckLines, FoundProblem, write_check};
 pub use items::{RulePlace, StackHead, StackLine, StackLines, write_stack};
 pub use module_paths::ModulePaths;
-pub use writes::told;
+pub use ways::UNCOUNTED;
+pub use writes::with_write_fault;

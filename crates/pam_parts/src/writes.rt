@@ -7,7 +7,7 @@ use pam_report::Fault;
 use pam_text::Device;
 
 /// Returns the fault of a write that failed.
-pub fn told(written: Result<(), Device>) -> Result<(), Fault>
+pub fn with_write_fault(written: Result<(), Device>) -> Result<(), Fault>
     ensures { MatchResult written (λ none. result ≡ Ok none) (λ _. result ≡ Err faults.Device) }
 {
     match written {

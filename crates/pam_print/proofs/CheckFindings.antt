@@ -2,6 +2,7 @@
 use Rattle.std.proofs.Common.{◌≡◌, ◌∙◌, ℕ, List, [], ◌∷◌, ◌++◌, append_assoc, append-nil, codes, refl, Option}
 use Rattle.std.specs.Prelude.{decimal}
 use Rattle.std.specs.List.{concat, flat_map}
+use Rattle.pam_codes.specs.SetText.{name_of}
 use Rattle.pam_conf.specs.Stack.{Items}
 use Rattle.pam_host.specs.Levels.{level_of}
 use Rattle.pam_host.specs.declared.problem.Place.{Place}
@@ -14,7 +15,6 @@ use Rattle.pam_report.specs.Names.{problem_name}
 use Rattle.pam_print.specs.Check.{answer_text, answers_text, finding_line, next_answer, place_text, sentence}
 use Rattle.pam_parts.specs.Check.{Names}
 use Rattle.pam_sentences.specs.Shown.{shown_name}
-use Rattle.pam_print.specs.Header.{code_name}
 use Rattle.pam_sentences.specs.Sentences as say
 
 -- THE ANSWERS OF A WAY IN
@@ -24,7 +24,7 @@ answer_parts : (number name code : List ℕ)
     → (concat (codes " " ∷ number ∷ codes " " ∷ []) ++ name) ++ concat (codes " " ∷ code ∷ []) ≡ codes " " ++ number ++ codes " " ++ name ++ codes " " ++ code
 answer_parts number name code = simp (append_assoc, append-nil)
 
-pub answer_text-is : (items : Items) (a : Answered) (name code : List ℕ) → name ≡ name_of_path (path_at a.number items) → code ≡ code_name a.code
+pub answer_text-is : (items : Items) (a : Answered) (name code : List ℕ) → name ≡ name_of_path (path_at a.number items) → code ≡ name_of a.code
     → (concat (codes " " ∷ decimal a.number ∷ codes " " ∷ []) ++ shown_name name) ++ concat (codes " " ∷ code ∷ []) ≡ answer_text items a
 unfolding answer_text
 answer_text-is items a name code e f = answer_parts (decimal a.number) (shown_name name) code ∙ rw (e, f) refl

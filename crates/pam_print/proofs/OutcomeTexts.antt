@@ -1,7 +1,7 @@
 -- The lines of `outcomes`.
 use Rattle.std.proofs.Common.{◌≡◌, ℕ, List, ◌∷◌, ◌++◌, Option, codes, map, refl}
 use Rattle.std.specs.List.{flat_map}
-use Rattle.pam_codes.specs.SetText.{set_text}
+use Rattle.pam_codes.specs.SetText.{name_of, set_text}
 use Rattle.pam_conf.specs.Stack.{Items, module_count}
 use Rattle.pam_conf.specs.declared.rule.Kind.{Kind}
 use Rattle.pam_known.specs.Answers.{name_of_path}
@@ -14,7 +14,7 @@ use Rattle.pam_report.specs.Reply.{Outcome}
 use Rattle.pam_report.specs.ReplyViews.{outcome_view}
 use Rattle.pam_report.specs.declared.report.outcomes.Outcome as declared
 use Rattle.pam_parts.specs.Ways.{count_text}
-use Rattle.pam_print.specs.Header.{code_name, header_text}
+use Rattle.pam_print.specs.Header.{header_text}
 use Rattle.pam_print.specs.Outcomes.{named_step, named_steps, next_step, outcome_line, total_line}
 use Rattle.pam_print.specs.WordText.{word_text}
 
@@ -29,7 +29,7 @@ unfolding named_steps
 named_steps-is items all first others e = rw e refl
 
 pub outcome_line-is : (items : Items) (o : Outcome) (name k : List ℕ) (steps : List StepValue)
-    → name ≡ code_name o.decision → k ≡ key o.first → steps ≡ o.first.steps
+    → name ≡ name_of o.decision → k ≡ key o.first → steps ≡ o.first.steps
     → name ++ codes " " ++ count_text o.count ++ codes " ways, first " ++ cursor_text k ++ named_steps items steps ++ codes "\n" ≡ outcome_line items o
 unfolding outcome_line
 outcome_line-is items o name k steps e f g = rw (e, f, g) refl

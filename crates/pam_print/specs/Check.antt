@@ -3,6 +3,7 @@ use Rattle.std.specs.Prelude.{ℕ, ◌-◌, ◌==◌, ◌||◌, nat_lt, Bool, fa
 use Rattle.std.specs.Prelude.{decimal, if◌then◌else◌, Option, None, Some, slice_index_or}
 use Rattle.std.specs.List.{flat_map}
 use Rattle.std.specs.Option.{option_map_or}
+use Rattle.pam_codes.specs.SetText.{name_of}
 use Rattle.pam_conf.specs.Stack.{Items}
 use Rattle.pam_conf.specs.declared.rule.Form.{Form}
 use Rattle.pam_conf.specs.declared.rule.Form.TheVariants.{Dir, Single}
@@ -26,7 +27,7 @@ use Rattle.pam_report.specs.Names.{problem_name, stack_of}
 use Rattle.pam_report.specs.Reply.{CheckValue}
 use Rattle.pam_report.specs.TablePaths.{TablePathsText, level_of_table_problem, path_of as path_of_table, table_problem_name}
 use Rattle.pam_table_check.specs.declared.problem.TableFinding.{TableFinding}
-use Rattle.pam_print.specs.Header.{code_name, kind_name}
+use Rattle.pam_print.specs.Header.{kind_name}
 use Rattle.pam_sentences.specs.Sentences as say
 use Rattle.pam_sentences.specs.Shown.{shown_name}
 use Rattle.pam_sentences.specs.Tables.{table_sentence}
@@ -86,7 +87,7 @@ kind_of_service names kind service = kind_name kind ++ of_service names.form nam
 -- `NUMBER NAME CODE`
 unfoldable pub answer_text : Items → Answered → List ℕ
 answer_text items answer =
-    codes " " ++ decimal answer.number ++ codes " " ++ shown_name (name_of_path (path_at answer.number items)) ++ codes " " ++ code_name answer.code
+    codes " " ++ decimal answer.number ++ codes " " ++ shown_name (name_of_path (path_at answer.number items)) ++ codes " " ++ name_of answer.code
 
 abbrev pub next_answer : Items → Answered → List ℕ
 next_answer items answer = codes "," ++ answer_text items answer

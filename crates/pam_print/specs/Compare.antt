@@ -9,6 +9,7 @@ use Rattle.pam_changes.specs.declared.pair.Shown.{Shown}
 use Rattle.pam_changes.specs.declared.pair.StackPair.{StackPair}
 use Rattle.pam_changes.specs.declared.steps.AskedModule.{AskedModule}
 use Rattle.pam_changes.specs.declared.steps.AskedModule.TheVariants.{Old, New, Both}
+use Rattle.pam_codes.specs.SetText.{name_of}
 use Rattle.pam_compare.specs.declared.comparing.TheConstants.{MAX_SITUATIONS}
 use Rattle.pam_conf.specs.Files.{Folder}
 use Rattle.pam_conf.specs.Stack.{Items, module_at}
@@ -21,7 +22,7 @@ use Rattle.pam_report.specs.FaultTable.{conf_row}
 use Rattle.pam_report.specs.Reply.{CompareValue}
 use Rattle.pam_print.specs.Check.{counted}
 use Rattle.pam_sentences.specs.Shown.{shown_name}
-use Rattle.pam_print.specs.Header.{code_name, kind_name}
+use Rattle.pam_print.specs.Header.{kind_name}
 
 -- MODULES
 
@@ -52,9 +53,9 @@ head_text head = shown_name head.service ++ codes " " ++ kind_name head.kind
 
 -- a module that is asked, and its answer; `-` for one that only the old stack has, `+` for one that only the new stack has
 unfoldable pub asked_text : StackPair → AskedModule → List ℕ
-asked_text pair (Old number code) = codes "-" ++ module_text pair.old number ++ codes " " ++ code_name code
-asked_text pair (New number code) = codes "+" ++ module_text pair.new number ++ codes " " ++ code_name code
-asked_text pair (Both old number code) = module_text pair.new number ++ codes " " ++ code_name code
+asked_text pair (Old number code) = codes "-" ++ module_text pair.old number ++ codes " " ++ name_of code
+asked_text pair (New number code) = codes "+" ++ module_text pair.new number ++ codes " " ++ name_of code
+asked_text pair (Both old number code) = module_text pair.new number ++ codes " " ++ name_of code
 
 abbrev pub next_asked : StackPair → AskedModule → List ℕ
 next_asked pair asked = codes ", " ++ asked_text pair asked
@@ -67,7 +68,7 @@ asked_texts pair (asked ∷ others) = asked_text pair asked ++ flat_map (next_as
 -- `SERVICE KIND CHANGE: CODE becomes CODE where MODULE CODE, MODULE CODE`
 unfoldable pub change_line : Head → StackPair → List ℕ → Shown → List ℕ
 change_line head pair change shown =
-    head_text head ++ codes " " ++ change ++ codes ": " ++ code_name shown.witness.old ++ codes " becomes " ++ code_name shown.witness.new
+    head_text head ++ codes " " ++ change ++ codes ": " ++ name_of shown.witness.old ++ codes " becomes " ++ name_of shown.witness.new
     ++ codes " where " ++ asked_texts pair shown.asked.items ++ codes "\n"
 
 -- a colon before the first, a comma before each other

@@ -1,15 +1,15 @@
 -- The text of `decide`: the modules that a run asks, as in pam.conf(5), and the decision.
 use Rattle.std.specs.Prelude.{ℕ, List, ◌∷◌, [], ◌++◌, codes, decimal}
 use Rattle.std.specs.List.{concat, flat_map}
+use Rattle.pam_codes.specs.SetText.{name_of}
 use Rattle.pam_codes.specs.declared.action.Action.{Action}
 use Rattle.pam_codes.specs.declared.action.Action.TheVariants.{Jump}
 use Rattle.pam_codes.specs.Action.{action_text as word_of_action}
-use Rattle.pam_dispatch.specs.declared.state.Impression.{Impression}
-use Rattle.pam_dispatch.specs.declared.state.Impression.TheVariants.{Undef, Positive, Negative}
 use Rattle.pam_dispatch.specs.declared.state.State.{State}
+use Rattle.pam_drawing.specs.Drawing.{impression_name}
 use Rattle.pam_report.specs.Decide.{AskedModule}
 use Rattle.pam_report.specs.Reply.{RunValue}
-use Rattle.pam_print.specs.Header.{code_name, header_text}
+use Rattle.pam_print.specs.Header.{header_text}
 use Rattle.pam_print.specs.WordText.{word_text}
 
 -- an action as in a control; a jump is written after `jump:`
@@ -17,22 +17,17 @@ unfoldable pub action_text : Action → List ℕ
 action_text (Jump items) = codes "jump:" ++ word_of_action (Jump items)
 action_text action = word_of_action action
 
-abbrev pub impression_name : Impression → List ℕ
-impression_name Undef = codes "undef"
-impression_name Positive = codes "positive"
-impression_name Negative = codes "negative"
-
 -- `NUMBER PATH`
 unfoldable pub path_text : ℕ → List ℕ → List ℕ
 path_text number path = concat (decimal number ∷ codes " " ∷ []) ++ word_text path
 
 -- ` CODE `
 unfoldable pub code_text : ℕ → List ℕ
-code_text code = concat (codes " " ∷ code_name code ∷ codes " " ∷ [])
+code_text code = concat (codes " " ∷ name_of code ∷ codes " " ∷ [])
 
 -- ` IMPRESSION STATUS` and a line feed
 unfoldable pub state_text : State → List ℕ
-state_text s = concat (codes " " ∷ impression_name s.impression ∷ codes " " ∷ code_name s.status ∷ codes "\n" ∷ [])
+state_text s = concat (codes " " ∷ impression_name s.impression ∷ codes " " ∷ name_of s.status ∷ codes "\n" ∷ [])
 
 -- ` CODE ACTION IMPRESSION STATUS`, with the state after the action
 unfoldable pub outcome_text : ℕ → Action → State → List ℕ
@@ -48,7 +43,7 @@ trace_text modules = flat_map asked_text modules
 
 -- `decision CODE`
 unfoldable pub decision_text : ℕ → List ℕ
-decision_text code = concat (codes "decision " ∷ code_name code ∷ codes "\n" ∷ [])
+decision_text code = concat (codes "decision " ∷ name_of code ∷ codes "\n" ∷ [])
 
 -- THE TEXT of `decide`
 abbrev pub run_text : RunValue → List ℕ

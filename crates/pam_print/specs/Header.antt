@@ -3,7 +3,6 @@ use Rattle.std.specs.Prelude.{ℕ, List, ◌∷◌, [], codes, decimal, map}
 use Rattle.std.specs.Char.{to_ascii_lowercase}
 use Rattle.std.specs.List.{concat}
 use Rattle.pam_conf.specs.declared.rule.Kind.{Kind}
-unfoldable pub use Rattle.pam_page.specs.Page.{code_name}
 unfoldable pub use Rattle.pam_parts.specs.Files.{name_at}
 pub use Rattle.pam_report.specs.Names.{kind_name}
 

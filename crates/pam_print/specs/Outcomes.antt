@@ -1,7 +1,7 @@
 -- The text of `outcomes`: a line for each decision, with the first path that ends in it, and a last line.
 use Rattle.std.specs.Prelude.{ℕ, List, [], ◌∷◌, ◌++◌, codes, Option}
 use Rattle.std.specs.List.{flat_map}
-use Rattle.pam_codes.specs.SetText.{set_text}
+use Rattle.pam_codes.specs.SetText.{name_of, set_text}
 use Rattle.pam_conf.specs.Stack.{Items, module_count}
 use Rattle.pam_known.specs.Answers.{name_of_path}
 use Rattle.pam_parts.specs.Ways.{count_text}
@@ -9,7 +9,7 @@ use Rattle.pam_paths.specs.CursorText.{cursor_text}
 use Rattle.pam_paths.specs.Paths.{StepValue, key}
 use Rattle.pam_report.specs.Decide.{path_at}
 use Rattle.pam_report.specs.Reply.{Outcome, OutcomesValue}
-use Rattle.pam_print.specs.Header.{code_name, header_text}
+use Rattle.pam_print.specs.Header.{header_text}
 use Rattle.pam_print.specs.WordText.{word_text}
 
 -- `NAME CLASS`: the name of the module's file, and the class of its answer
@@ -27,7 +27,7 @@ named_steps items (step ∷ steps) = (codes ":" ++ named_step items step) ++ fla
 -- `DECISION COUNT ways, first CURSOR: STEPS`
 unfoldable pub outcome_line : Items → Outcome → List ℕ
 outcome_line items outcome =
-    code_name outcome.decision ++ codes " " ++ count_text outcome.count ++ codes " ways, first " ++ cursor_text (key outcome.first)
+    name_of outcome.decision ++ codes " " ++ count_text outcome.count ++ codes " ways, first " ++ cursor_text (key outcome.first)
     ++ named_steps items outcome.first.steps ++ codes "\n"
 
 -- `total COUNT ways`

@@ -2,27 +2,18 @@
 
 ghost use Rattle.std.specs.Prelude.{◌≡◌, map};
 ghost use Rattle.pam_codes.specs.Out.{Writes, WritesAndFlushes};
+ghost use Rattle.pam_codes.specs.SetText.{name_of};
 ghost use Rattle.pam_report.specs.ReplyViews.{asked_view, run_view};
-ghost use Rattle.pam_print.specs.Decide.{action_text, asked_text, code_text, decision_text, impression_name};
+ghost use Rattle.pam_print.specs.Decide.{action_text, asked_text, code_text, decision_text};
 ghost use Rattle.pam_print.specs.Decide.{outcome_text, path_text, run_text, state_text, trace_text};
-ghost use Rattle.pam_print.specs.Header.{code_name};
 
 use crate::header::put_header;
 use crate::word::put_word;
 use pam_codes::{Action, Code, Device, Out, Piece};
-use pam_dispatch::{Decision, Impression, State};
+use pam_dispatch::{Decision, State};
+use pam_drawing::{impression_name, name_of};
 use pam_report::{AskedModule, RunReply};
 use std::io::Write;
-
-fn impression_name(impression: Impression) -> &'static str
-    ensures { result.now ≡ impression_name impression }
-{
-    match impression {
-        Impression::Undef => "undef",
-        Impression::Positive => "positive",
-        Impression::Negative => "negative",
-    }
-}
 
 #[tactic(auto, unfolding(crate::specs::Decide::action_text))]
 fn put_action<W: Write>(action: Action, out: &mut Out<W>) -> Result<(), Device>
@@ -32,13 +23,6 @@ fn put_action<W: Write>(action: Action, out: &mut Out<W>) -> Result<(), Device>
         return out.put_line(&[Piece::Bytes(b"jump:"), action.piece()]);
     }
     out.put_line(&[action.piece()])
-}
-
-#[tactic(auto, unfolding(crate::specs::Header::code_name))]
-pub(crate) fn name_of(code: Code) -> &'static [u8]
-    ensures { result.now ≡ code_name code }
-{
-    code.name().as_bytes()
 }
 
 /// Writes a code with a space before and after it.
@@ -60,7 +44,7 @@ fn put_state<W: Write>(state: State, out: &mut Out<W>) -> Result<(), Device>
 {
     out.put_line(&[
         Piece::Bytes(b" "),
-        Piece::Bytes(impression_name(state.impression).as_bytes()),
+        Piece::Bytes(impression_name(state.impression)),
         Piece::Bytes(b" "),
         Piece::Bytes(name_of(state.status)),
         Piece::Bytes(b"\n"),

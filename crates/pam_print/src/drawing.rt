@@ -12,6 +12,7 @@ ghost use Rattle.pam_print.specs.inner.Leaves.{Prints};
 use pam_codes::{Device, Out};
 use pam_conf::Kind;
 use pam_drawing::{write_dot, write_mermaid};
+use pam_parts::with_write_fault;
 use pam_picture::{Layout, write_svg};
 use pam_report::{Fault, GraphReply, kind_name};
 use pam_words::GraphFormat;
@@ -54,10 +55,10 @@ fn canvas_of(alloc: Global, reply: &GraphReply<'_>, title: &[u8]) -> Result<Canv
     match reply.format {
         GraphFormat::Dot => Ok(Canvas::Dot),
         GraphFormat::Mermaid => Ok(Canvas::Mermaid),
-        GraphFormat::Svg => match Layout::of(alloc, &reply.stack, &reply.graph, title) {
-            Ok(layout) => Ok(Canvas::Svg(layout)),
-            Err(error) => Err(error),
-        },
+        GraphFormat::Svg => {
+            let layout = Layout::of(alloc, &reply.stack, &reply.graph, title)?;
+            Ok(Canvas::Svg(layout))
+        }
     }
 }
 
@@ -108,8 +109,5 @@ pub(crate) fn write_drawing<W: Write>(
         Ok(canvas) => canvas,
         Err(_) => return Err(Fault::Memory),
     };
-    match write_graph(reply, &canvas, &title, out) {
-        Ok(()) => Ok(()),
-        Err(Device) => Err(Fault::Device),
-    }
+    with_write_fault(write_graph(reply, &canvas, &title, out))
 }

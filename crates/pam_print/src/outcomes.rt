@@ -9,13 +9,13 @@ ghost use Rattle.pam_parts.specs.Ways.{count_text};
 ghost use Rattle.pam_print.specs.Outcomes.{named_step, named_steps, next_step};
 ghost use Rattle.pam_print.specs.Outcomes.{outcome_line, outcomes_text, total_line};
 
-use crate::decide::name_of;
 use crate::header::put_header;
 use crate::word::put_word;
 use itoa::Buffer;
 use pam_codes::{Device, Out};
+use pam_drawing::name_of;
 use pam_known::name_of_path;
-use pam_parts::ModulePaths;
+use pam_parts::{ModulePaths, UNCOUNTED};
 use pam_paths::PathStep;
 use pam_report::{Outcome, OutcomesReply};
 use std::io::Write;
@@ -25,7 +25,7 @@ fn put_count<W: Write>(count: Option<u128>, out: &mut Out<W>) -> Result<(), Devi
     ensures { Writes W.contents out.old out.new result (count_text count) }
 {
     let Some(count) = count else {
-        return out.put(b"340282366920938463463374607431768211456+");
+        return out.put(UNCOUNTED);
     };
     let mut buffer = Buffer::new();
     out.put(buffer.format(count).as_bytes())

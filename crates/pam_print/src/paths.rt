@@ -12,6 +12,7 @@ ghost use Rattle.pam_print.specs.Page.{page_text};
 use crate::header::put_header;
 use pam_codes::{Device, Out};
 use pam_page::{LineTexts, Listing, put_page};
+use pam_parts::with_write_fault;
 use pam_paths::Known;
 use pam_report::{Fault, PageRenderer, PathsPage};
 use std::alloc::Global;
@@ -57,10 +58,7 @@ fn write_listed<W: Write>(
         Ok(texts) => texts,
         Err(_) => return Err(Fault::Memory),
     };
-    match write_listing(page, listing, texts, out) {
-        Ok(()) => Ok(()),
-        Err(Device) => Err(Fault::Device),
-    }
+    with_write_fault(write_listing(page, listing, texts, out))
 }
 
 /// Renders a page as text.

@@ -18,7 +18,7 @@ use crate::released::write_released;
 use crate::tables::{write_access, write_time};
 use pam_codes::Out;
 use pam_json::print_if_any;
-use pam_parts::{told, write_check, write_compared, write_stack};
+use pam_parts::{with_write_fault, write_check, write_compared, write_stack};
 use pam_report::{Fault, Inputs, Reply, Status, reply_to};
 use pam_words::{OutputForm, Request};
 use std::alloc::Global;
@@ -59,18 +59,18 @@ fn print_text<W: Write>(alloc: Global, reply: &Reply<'_>, out: &mut Out<W>) -> R
     ensures { Prints W.contents out.old out.new result (reply_view reply.now) }
 {
     match reply {
-        Reply::Stack(stack) => told(write_stack(&AsText, alloc, stack, out)),
-        Reply::Released(rules) => told(write_released(rules, out)),
-        Reply::Run(run) => told(write_run(run, out)),
-        Reply::Access(answer) => told(write_access(*answer, out)),
-        Reply::Time(answer) => told(write_time(*answer, out)),
-        Reply::Outcomes(outcomes) => told(write_outcomes(outcomes, out)),
+        Reply::Stack(stack) => with_write_fault(write_stack(&AsText, alloc, stack, out)),
+        Reply::Released(rules) => with_write_fault(write_released(rules, out)),
+        Reply::Run(run) => with_write_fault(write_run(run, out)),
+        Reply::Access(answer) => with_write_fault(write_access(*answer, out)),
+        Reply::Time(answer) => with_write_fault(write_time(*answer, out)),
+        Reply::Outcomes(outcomes) => with_write_fault(write_outcomes(outcomes, out)),
         Reply::Check(check) => write_check(&AsText, alloc, check, out),
-        Reply::Compared(compared) => told(write_compared(&AsText, compared, out)),
-        Reply::Explained(explanation) => told(write_explanation(explanation, out)),
-        Reply::Explanations => told(write_explanations(out)),
-        Reply::Facts => told(write_known(out)),
-        Reply::Version => told(write_version(out)),
+        Reply::Compared(compared) => with_write_fault(write_compared(&AsText, compared, out)),
+        Reply::Explained(explanation) => with_write_fault(write_explanation(explanation, out)),
+        Reply::Explanations => with_write_fault(write_explanations(out)),
+        Reply::Facts => with_write_fault(write_known(out)),
+        Reply::Version => with_write_fault(write_version(out)),
         Reply::Graph(drawing) => write_drawing(alloc, drawing, out),
         Reply::Paths(page) => PageText { alloc, page }.write(out),
     }

@@ -6,9 +6,9 @@ ghost use Rattle.serde_json.specs.Written.{compact_text};
 ghost use Rattle.pam_json.specs.Check.{answer_object, answers_array, kinds_of, services_array, type_string, types_array, way_array};
 
 use super::sentence::{put_said, put_table_said};
-use crate::header::name_of;
 use pam_codes::{Device, Out};
 use pam_conf::{Kind, Stack};
+use pam_drawing::name_of;
 use pam_facts::Kinds;
 use pam_host::{Answered, Met, Problem, WayIn};
 use pam_json_lines::{Elements, Member, Written, put_array, put_object, put_quoted, put_readable};

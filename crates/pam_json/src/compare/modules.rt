@@ -4,10 +4,10 @@ ghost use Rattle.pam_codes.specs.Out.{Writes};
 ghost use Rattle.pam_json.specs.Compare.{arguments_array, asked_object, module_object, modules_array, step_object, steps_array};
 ghost use Rattle.serde_json.specs.Written.{compact_text};
 
-use crate::header::name_of;
 use pam_changes::{AskedModule, StackPair};
 use pam_codes::{Code, Device, Out};
 use pam_conf::Stack;
+use pam_drawing::name_of;
 use pam_json_lines::{Elements, Member, put_array, put_object, put_strings};
 use pam_parts::occurrence;
 use pam_report::path_at;

@@ -8,11 +8,11 @@ ghost use Rattle.pam_json.specs.Compare.{arguments_json, change_json, modules_ar
 ghost use Rattle.pam_json.specs.inner.Written.{change_value};
 
 use super::values::ChangeValue;
-use crate::header::name_of;
 use pam_changes::{MatchedPair, Shown};
 use pam_codes::{Device, Out};
 use pam_compare::MAX_SITUATIONS;
 use pam_conf::Stack;
+use pam_drawing::name_of;
 use pam_json_lines::{Member, put_line};
 use pam_parts::{DifferingStack, Head, occurrence};
 use pam_report::{kind_name, path_at};

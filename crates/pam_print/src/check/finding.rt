@@ -8,9 +8,9 @@ ghost use Rattle.pam_print.specs.Check.{way_in_at, way_text};
 ghost use Rattle.pam_parts.specs.CheckNames.{names_view, word_of};
 
 use super::met::put_met_if_any;
-use crate::decide::name_of;
 use pam_codes::{Device, Out, Piece};
 use pam_conf::{Form, Kind, Stack};
+use pam_drawing::name_of;
 use pam_host::{Answered, Finding, Met, Place, Problem, WayIn};
 use pam_known::name_of_path;
 use pam_misspelled::Misspelled;

@@ -3,14 +3,14 @@
 ghost use Rattle.std.specs.Prelude.{◌++◌, codes};
 ghost use Rattle.std.specs.List.{flat_map};
 ghost use Rattle.pam_codes.specs.Out.{Writes};
+ghost use Rattle.pam_codes.specs.SetText.{name_of};
 ghost use Rattle.pam_print.specs.Compare.{asked_text, asked_texts, module_text, next_asked};
-ghost use Rattle.pam_print.specs.Header.{code_name};
 
 use super::modules::put_module;
-use crate::decide::name_of;
 use pam_changes::{AskedModule, StackPair};
 use pam_codes::{Code, Device, Out};
 use pam_conf::Stack;
+use pam_drawing::name_of;
 use std::io::Write;
 
 /// Writes a module and its answer.
@@ -21,7 +21,7 @@ fn put_step<W: Write>(
     code: Code,
     out: &mut Out<W>,
 ) -> Result<(), Device>
-    ensures { Writes W.contents out.old out.new result (mark.now ++ module_text stack.now number ++ codes " " ++ code_name code) }
+    ensures { Writes W.contents out.old out.new result (mark.now ++ module_text stack.now number ++ codes " " ++ name_of code) }
 {
     out.put(mark)?;
     put_module(stack, number, out)?;

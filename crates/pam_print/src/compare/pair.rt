@@ -5,10 +5,10 @@ ghost use Rattle.pam_parts.specs.ComparedView.{head_view};
 ghost use Rattle.pam_print.specs.Compare.{argument_line, change_line, not_known_line, same_line};
 
 use super::parts::{Part, put_parts};
-use crate::decide::name_of;
 use pam_changes::{MatchedPair, Shown};
 use pam_codes::{Device, Out};
 use pam_compare::MAX_SITUATIONS;
+use pam_drawing::name_of;
 use pam_parts::{DifferingStack, Head};
 use std::io::Write;
 

@@ -8,5 +8,5 @@ use Rattle.pam_json.proofs.paths.write_listed.Goals as goal
 pub returns : goal.returns
 returns g c =
     let page = page_value c.args.page.now in
-    λ found. text-printed g.W.Write.contents IsJson _ _ (Page page) _ _ _ (listed page_json page c.args.listing.now found) c.told.ensures
+    λ found. text-printed g.W.Write.contents IsJson _ _ (Page page) _ _ _ (listed page_json page c.args.listing.now found) c.with_write_fault.ensures
     c.write_listing.ensures

@@ -22,27 +22,27 @@ written contents old new result one other same has h =
 pub returns-in-Stack : goal.returns-in-Stack
 returns-in-Stack g c =
     written g.W.Write.contents _ _ _ (replies.Stack c.in-Stack.stack) _ c.in-Stack.is refl
-    (text-printed g.W.Write.contents IsJson _ _ (spec.Stack (stack_view c.in-Stack.stack)) _ _ _ refl c.told.ensures c.write_stack.ensures)
+    (text-printed g.W.Write.contents IsJson _ _ (spec.Stack (stack_view c.in-Stack.stack)) _ _ _ refl c.with_write_fault.ensures c.write_stack.ensures)
 
 pub returns-in-Run : goal.returns-in-Run
 returns-in-Run g c =
     written g.W.Write.contents _ _ _ (replies.Run c.in-Run.run') _ c.in-Run.is refl
-    (text-printed g.W.Write.contents IsJson _ _ (spec.Run (run_view c.in-Run.run')) _ _ _ refl c.told-in-Run.ensures c.write_run.ensures)
+    (text-printed g.W.Write.contents IsJson _ _ (spec.Run (run_view c.in-Run.run')) _ _ _ refl c.with_write_fault-in-Run.ensures c.write_run.ensures)
 
 pub returns-in-Access : goal.returns-in-Access
 returns-in-Access g c =
     written g.W.Write.contents _ _ _ (replies.Access c.in-Access.answer) _ c.in-Access.is refl
-    (text-printed g.W.Write.contents IsJson _ _ (spec.Access c.in-Access.answer) _ _ _ refl c.told-in-Access.ensures c.write_access.ensures)
+    (text-printed g.W.Write.contents IsJson _ _ (spec.Access c.in-Access.answer) _ _ _ refl c.with_write_fault-in-Access.ensures c.write_access.ensures)
 
 pub returns-in-Time : goal.returns-in-Time
 returns-in-Time g c =
     written g.W.Write.contents _ _ _ (replies.Time c.in-Time.answer) _ c.in-Time.is refl
-    (text-printed g.W.Write.contents IsJson _ _ (spec.Time c.in-Time.answer) _ _ _ refl c.told-in-Time.ensures c.write_time.ensures)
+    (text-printed g.W.Write.contents IsJson _ _ (spec.Time c.in-Time.answer) _ _ _ refl c.with_write_fault-in-Time.ensures c.write_time.ensures)
 
 pub returns-in-Outcomes : goal.returns-in-Outcomes
 returns-in-Outcomes g c =
     written g.W.Write.contents _ _ _ (replies.Outcomes c.in-Outcomes.outcomes) _ c.in-Outcomes.is refl
-    (text-printed g.W.Write.contents IsJson _ _ (spec.Outcomes (outcomes_view c.in-Outcomes.outcomes)) _ _ _ refl c.told-in-Outcomes.ensures
+    (text-printed g.W.Write.contents IsJson _ _ (spec.Outcomes (outcomes_view c.in-Outcomes.outcomes)) _ _ _ refl c.with_write_fault-in-Outcomes.ensures
     c.write_outcomes.ensures)
 
 pub returns-in-Paths : goal.returns-in-Paths
@@ -57,5 +57,5 @@ returns-in-Check g c =
 pub returns-in-Compared : goal.returns-in-Compared
 returns-in-Compared g c =
     written g.W.Write.contents _ _ _ (replies.Compared c.in-Compared.compared) _ c.in-Compared.is refl
-    (text-printed g.W.Write.contents IsJson _ _ (spec.Compared (compare_view c.in-Compared.compared)) _ _ _ refl c.told-in-Compared.ensures
+    (text-printed g.W.Write.contents IsJson _ _ (spec.Compared (compare_view c.in-Compared.compared)) _ _ _ refl c.with_write_fault-in-Compared.ensures
     c.write_compared.ensures)

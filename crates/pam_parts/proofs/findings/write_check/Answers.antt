@@ -15,4 +15,5 @@ pub returns-in-Ok : goal.returns-in-Ok
 returns-in-Ok g c =
     let value = check_view c.args.reply.now in
     let line = g.L.CheckLines.line in
-    text-printed g.W.Write.contents (IsCheckBy line) _ _ (Check value) _ _ _ (text-is line value _ c.in-Ok.ensures) c.told.ensures c.write_named.ensures
+    text-printed g.W.Write.contents (IsCheckBy line) _ _ (Check value) _ _ _ (text-is line value _ c.in-Ok.ensures) c.with_write_fault.ensures
+    c.write_named.ensures

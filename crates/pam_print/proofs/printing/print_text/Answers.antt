@@ -11,27 +11,27 @@ use Rattle.pam_print.proofs.printing.print_text.Goals as goal
 pub returns-in-Stack : goal.returns-in-Stack
 returns-in-Stack g c =
     reply-is g.W.Write.contents IsText _ _ _ (replies.Stack c.in-Stack.stack) _ c.in-Stack.is
-    (text-printed g.W.Write.contents IsText _ _ (spec.Stack (stack_view c.in-Stack.stack)) _ _ _ refl c.told.ensures c.write_stack.ensures)
+    (text-printed g.W.Write.contents IsText _ _ (spec.Stack (stack_view c.in-Stack.stack)) _ _ _ refl c.with_write_fault.ensures c.write_stack.ensures)
 
 pub returns-in-Run : goal.returns-in-Run
 returns-in-Run g c =
     reply-is g.W.Write.contents IsText _ _ _ (replies.Run c.in-Run.run') _ c.in-Run.is
-    (text-printed g.W.Write.contents IsText _ _ (spec.Run (run_view c.in-Run.run')) _ _ _ refl c.told-in-Run.ensures c.write_run.ensures)
+    (text-printed g.W.Write.contents IsText _ _ (spec.Run (run_view c.in-Run.run')) _ _ _ refl c.with_write_fault-in-Run.ensures c.write_run.ensures)
 
 pub returns-in-Access : goal.returns-in-Access
 returns-in-Access g c =
     reply-is g.W.Write.contents IsText _ _ _ (replies.Access c.in-Access.answer) _ c.in-Access.is
-    (text-printed g.W.Write.contents IsText _ _ (spec.Access c.in-Access.answer) _ _ _ refl c.told-in-Access.ensures c.write_access.ensures)
+    (text-printed g.W.Write.contents IsText _ _ (spec.Access c.in-Access.answer) _ _ _ refl c.with_write_fault-in-Access.ensures c.write_access.ensures)
 
 pub returns-in-Time : goal.returns-in-Time
 returns-in-Time g c =
     reply-is g.W.Write.contents IsText _ _ _ (replies.Time c.in-Time.answer) _ c.in-Time.is
-    (text-printed g.W.Write.contents IsText _ _ (spec.Time c.in-Time.answer) _ _ _ refl c.told-in-Time.ensures c.write_time.ensures)
+    (text-printed g.W.Write.contents IsText _ _ (spec.Time c.in-Time.answer) _ _ _ refl c.with_write_fault-in-Time.ensures c.write_time.ensures)
 
 pub returns-in-Outcomes : goal.returns-in-Outcomes
 returns-in-Outcomes g c =
     reply-is g.W.Write.contents IsText _ _ _ (replies.Outcomes c.in-Outcomes.outcomes) _ c.in-Outcomes.is
-    (text-printed g.W.Write.contents IsText _ _ (spec.Outcomes (outcomes_view c.in-Outcomes.outcomes)) _ _ _ refl c.told-in-Outcomes.ensures
+    (text-printed g.W.Write.contents IsText _ _ (spec.Outcomes (outcomes_view c.in-Outcomes.outcomes)) _ _ _ refl c.with_write_fault-in-Outcomes.ensures
     c.write_outcomes.ensures)
 
 pub returns-in-Paths : goal.returns-in-Paths

@@ -1,18 +1,18 @@
 use Rattle.std.proofs.Common.{[], ◌∷◌, codes, refl}
 use Rattle.std.specs.List.{concat}
 use Rattle.pam_codes.proofs.Writing.{all-then, err-front, front-is, front-longer, front-then, writes-is, writes-then}
+use Rattle.pam_codes.specs.SetText.{name_of}
 use Rattle.pam_known.specs.Answers.{name_of_path}
 use Rattle.pam_report.specs.Decide.{path_at}
 use Rattle.pam_print.proofs.CheckFindings.{answer_text-is}
 use Rattle.pam_sentences.specs.Shown.{shown_name}
-use Rattle.pam_print.specs.Header.{code_name}
 use Rattle.pam_print.proofs.check.finding.put_answer.Goals as goal
 
 pub returns-in_err-put_line : goal.returns-in_err-put_line
 returns-in_err-put_line g c =
     let answer = c.args.answer.now in
     let name = name_of_path (path_at answer.number c.args.stack.now) in
-    let code = code_name answer.code in
+    let code = name_of answer.code in
     err-front _ c.from_residual.ensures.0
     (front-is (front-longer (concat (codes " " ∷ code ∷ [])) (front-longer (shown_name name) c.in_err-put_line.ensures))
     (answer_text-is c.args.stack.now answer name code refl refl))
@@ -20,7 +20,7 @@ returns-in_err-put_line g c =
 pub returns-in_err-put_name : goal.returns-in_err-put_name
 returns-in_err-put_name g c =
     let answer = c.args.answer.now in
-    let code = code_name answer.code in
+    let code = name_of answer.code in
     err-front _ c.from_residual-in_err-put_name.ensures.0
     (front-is (front-longer (concat (codes " " ∷ code ∷ [])) (front-then c.in_ok-put_line.ensures c.in_err-put_name.ensures))
     (answer_text-is c.args.stack.now answer c.name_of_path.result.now code (rw (c.name_of_path.ensures, c.path_at.ensures) refl) refl))

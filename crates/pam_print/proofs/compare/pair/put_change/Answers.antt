@@ -1,8 +1,8 @@
 use Rattle.std.proofs.Common.{◌∙◌, ap}
 use Rattle.pam_codes.proofs.Writing.{writes-is}
+use Rattle.pam_codes.specs.SetText.{name_of}
 use Rattle.pam_print.specs.Compare.{asked_texts, change_line, head_text}
 use Rattle.pam_parts.specs.ComparedView.{head_view}
-use Rattle.pam_print.specs.Header.{code_name}
 use Rattle.pam_print.proofs.CompareTexts.{change-parts}
 use Rattle.pam_print.proofs.compare.pair.put_change.Goals as goal
 
@@ -12,7 +12,7 @@ returns g c =
     let shown = c.args.shown.now in
     writes-is _ _ _ _ _ _ c.put_parts.ensures
     (change-parts (head_text (head_view c.args.stack.head)) c.args.change.now c.name_of.result.now c.name_of-2.result.now
-    (asked_texts c.args.stack.pair.now c.deref.result.now) (code_name shown.witness.old) (code_name shown.witness.new)
-    (asked_texts c.args.stack.pair.now shown.asked.items) (c.name_of.ensures ∙ ap code_name c.code.ensures)
-    (c.name_of-2.ensures ∙ ap code_name c.code-2.ensures)
+    (asked_texts c.args.stack.pair.now c.deref.result.now) (name_of shown.witness.old) (name_of shown.witness.new)
+    (asked_texts c.args.stack.pair.now shown.asked.items) (c.name_of.ensures ∙ ap name_of c.code.ensures)
+    (c.name_of-2.ensures ∙ ap name_of c.code-2.ensures)
     (ap (asked_texts c.args.stack.pair.now) c.deref.ensures.value))
