@@ -84,6 +84,15 @@ abbrev pub time_file : TimeFault → Option (List ℕ)
 time_file time.Memory = None
 time_file fault = Some (codes "time")
 
+-- the same of a facts file and of an accept file
+abbrev pub facts_file : FactsFault → Option (List ℕ)
+facts_file facts.Memory = None
+facts_file fault = Some (codes "facts")
+
+abbrev pub accept_file : AcceptError → Option (List ℕ)
+accept_file accept.Memory = None
+accept_file e = Some (codes "accept")
+
 -- ` FILE:LINE`, if there is a file
 abbrev pub line_place : Option (List ℕ) → ℕ → List ℕ
 line_place None line = []
@@ -98,8 +107,8 @@ abbrev pub place_of : Folder → Fault → List ℕ
 place_of files (faults.Conf e) = line_place (conf_file files e.at e.kind) e.line
 place_of files (faults.Table e) = line_place (table_file e.table e.fault) e.line
 place_of files (faults.Time e) = line_place (time_file e.fault) e.line
-place_of files (faults.Facts e) = line_place (Some (codes "facts")) e.line
-place_of files (faults.Accept e) = line_place (Some (codes "accept")) (accept_line e)
+place_of files (faults.Facts e) = line_place (facts_file e.fault) e.line
+place_of files (faults.Accept e) = line_place (accept_file e) (accept_line e)
 place_of files (faults.Count e) = concat (codes " want " ∷ decimal e.modules ∷ [])
 place_of files (faults.Cursor e) = cursor_place e
 place_of files fault = []

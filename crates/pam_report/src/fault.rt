@@ -214,6 +214,26 @@ fn time_file(fault: TimeFault) -> Option<&'static [u8]>
     Some("time".as_bytes())
 }
 
+/// Returns the place of a fault of a facts file, if it has one.
+fn facts_file(fault: FactsFault) -> Option<&'static [u8]>
+    ensures { option_map (λ name. name.now) result ≡ spec.facts_file fault }
+{
+    if fault == FactsFault::Memory {
+        return None;
+    }
+    Some("facts".as_bytes())
+}
+
+/// Returns the place of a fault of an accept file, if it has one.
+fn accept_file(error: AcceptError) -> Option<&'static [u8]>
+    ensures { option_map (λ name. name.now) result ≡ spec.accept_file error }
+{
+    match error {
+        AcceptError::Memory => None,
+        AcceptError::BadAccept(_) | AcceptError::Source(_) => Some("accept".as_bytes()),
+    }
+}
+
 fn cursor_line(alloc: Global, row: Row, error: CursorError) -> Result<Vec<u8>, AllocError>
     ensures { IfOk result (λ text. text.items ≡ spec.line_of (row_view row) (spec.cursor_place error)) }
 {
@@ -239,8 +259,8 @@ pub fn fault_text(alloc: Global, fault: &Fault, files: &Files) -> Result<Vec<u8>
         Fault::Conf(error) => line_at(alloc, row, conf_file(files, error), error.line as u64),
         Fault::Table(error) => line_at(alloc, row, table_file(error), u64::from(error.line)),
         Fault::Time(error) => line_at(alloc, row, time_file(error.fault), u64::from(error.line)),
-        Fault::Facts(error) => line_at(alloc, row, Some(b"facts"), u64::from(error.line)),
-        Fault::Accept(error) => line_at(alloc, row, Some(b"accept"), u64::from(error.line())),
+        Fault::Facts(error) => line_at(alloc, row, facts_file(error.fault), u64::from(error.line)),
+        Fault::Accept(error) => line_at(alloc, row, accept_file(*error), u64::from(error.line())),
         Fault::Count(error) => line(
             alloc,
             row,
