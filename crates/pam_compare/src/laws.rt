@@ -12,7 +12,7 @@ pub fn held_once()
     ensures { HeldOnce }
 {}
 
-/// A comparison looks at no more than a million situations.
+/// `MAX_SITUATIONS` is a million.
 pub fn most_situations()
     ensures { MostSituations }
 {}
