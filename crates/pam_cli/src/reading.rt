@@ -107,7 +107,7 @@ fn side_inputs<R: std::rt::Files + AllocGlobal + Clone + Drop>(
     source: ConfSource<'_>,
     named: &CompareFiles<'_>,
 ) -> Result<SideInputs, InputError>
-    ensures { MatchResult result (IsSide source.entry) (IsUnread (IsOfSide source.entry named.now)) }
+    ensures { MatchResult result (IsSide source.entry named.now) (IsUnread (IsOfSide source.entry named.now)) }
 {
     let files = source_files(rt, alloc, source, &[])?.files;
     let there = modules_there(rt, alloc, source, &named.modules, &files)?;

@@ -19,16 +19,16 @@ use Rattle.pam_cli.proofs.reading.inputs_of.Goals as goal
 module _ (candidates : List (Text × Text)) (source : ConfSource) (kind : Kind) (knowledge : KnowledgeSource) where
   paths-read : (limit : ℕ) (part : PagePart) (filter : PathFilter) (r : Result Inputs InputError) → IsKnowledgeReading candidates source knowledge r
       → IsReading candidates (Paths source kind limit part filter knowledge) r
-  paths-read limit part filter (Ok given) h = (h.0, (h.1, h.2))
+  paths-read limit part filter (Ok given) h = h
   paths-read limit part filter (Err error) h = h
 
   outcomes-read : (r : Result Inputs InputError) → IsKnowledgeReading candidates source knowledge r → IsReading candidates (Outcomes source kind knowledge) r
-  outcomes-read (Ok given) h = (h.0, (h.1, h.2))
+  outcomes-read (Ok given) h = h
   outcomes-read (Err error) h = h
 
   graph-read : (format : GraphFormat) (r : Result Inputs InputError) → IsKnowledgeReading candidates source knowledge r
       → IsReading candidates (Graph source kind format knowledge) r
-  graph-read format (Ok given) h = (h.0, (h.1, h.2))
+  graph-read format (Ok given) h = h
   graph-read format (Err error) h = h
 
 -- what is read for a task with a view of the candidates is read for the request
