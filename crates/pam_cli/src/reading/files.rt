@@ -1,6 +1,9 @@
 //! Reads files and folders.
 
-ghost use Rattle.std.specs.Prelude.{◌≡◌, IfErr};
+ghost use Rattle.std.specs.Prelude.{◌≡◌, IfErr, IfOk, string_bytes};
+ghost use Rattle.std.specs.Cmp.Lexicographic.{slice_cmp};
+ghost use Rattle.std.specs.List.Sorted.{IsSortedByKey};
+ghost use Rattle.std.specs.Ordering.{nat_cmp};
 ghost use Rattle.pam_cli.specs.Sources.{IsUnread};
 
 use crate::reading::inside::{Folder, Reached};
@@ -136,17 +139,34 @@ fn push_name(alloc: Global, names: &mut Vec<String>, name: &str) -> Result<(), A
 }
 
 /// Returns the names of the entries of a folder, in ascending byte order.
-pub(super) fn entry_names<R: std::rt::Files + AllocGlobal + Clone + Drop>(
+fn entry_names<R: std::rt::Files + AllocGlobal + Clone + Drop>(
     rt: &R,
     alloc: Global,
     folder: &str,
-) -> io::Result<Vec<String>> {
+) -> io::Result<Vec<String>>
+    ensures { IfOk result (λ names. IsSortedByKey string_bytes (slice_cmp nat_cmp) names.items) }
+{
     let mut names = Vec::new(alloc);
     for entry in fs::read_dir(rt, folder)? {
         push_name(alloc, &mut names, entry?.file_name())?;
     }
     names.sort()?;
     Ok(names)
+}
+
+/// Returns the names of the entries of a folder that is shown by its path, in ascending byte order.
+pub(super) fn names_in<R: std::rt::Files + AllocGlobal + Clone + Drop>(
+    rt: &R,
+    alloc: Global,
+    folder: Folder<'_>,
+) -> Result<Vec<String>, InputError>
+    ensures ok { IfOk result (λ names. IsSortedByKey string_bytes (slice_cmp nat_cmp) names.items) }
+    ensures error { IfErr result (IsUnread (λ n. n ≡ folder.entry.shown.now)) }
+{
+    match entry_names(rt, alloc, folder.path) {
+        Ok(names) => Ok(names),
+        Err(error) => Err(unread(alloc, folder.shown, &error)),
+    }
 }
 
 /// Reads what was found at a path, if it is a regular file.

@@ -6,7 +6,7 @@ ghost use Rattle.pam_cli.specs.Reading.{HasModules};
 ghost use Rattle.pam_cli.specs.Sources.{IsInSource, IsUnread};
 ghost use Rattle.pam_cli.specs.inner.Reading.{KeepsKnown, known_with};
 
-use crate::reading::files::{entry_names, find_folder, found_at, is_of_target, unread};
+use crate::reading::files::{find_folder, found_at, is_of_target, names_in, unread};
 use crate::reading::inside::Folder;
 use crate::reading::module_paths::ModulePaths;
 use indexmap::IndexSet;
@@ -93,10 +93,7 @@ fn put_folder<R: std::rt::Files + AllocGlobal + Clone + Drop>(
     ensures ok { OnOk result (found.new.is_known ≡ true) }
     ensures error { IfErr result (IsUnread (λ n. n ≡ folder.entry.shown.now)) }
 {
-    let names = match entry_names(rt, alloc, folder.path) {
-        Ok(names) => names,
-        Err(error) => return Err(unread(alloc, folder.shown, &error)),
-    };
+    let names = names_in(rt, alloc, folder)?;
     for name in names {
         found.put(alloc, name.as_bytes())?;
     }
@@ -155,10 +152,7 @@ fn put_library<R: std::rt::Files + AllocGlobal + Clone + Drop>(
     found: &mut Found,
 ) -> Result<(), InputError> {
     put_security(rt, alloc, library, SECURITY, found)?;
-    let names = match entry_names(rt, alloc, library.path) {
-        Ok(names) => names,
-        Err(error) => return Err(unread(alloc, library.shown, &error)),
-    };
+    let names = names_in(rt, alloc, library)?;
     for name in names {
         if is_triplet(name.as_str()) {
             let path = Path::new(name.as_str()).join(alloc, SECURITY)?;
