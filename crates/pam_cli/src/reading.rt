@@ -227,13 +227,13 @@ pub(crate) fn inputs_of<R: std::rt::Files + AllocGlobal + Clone + Drop>(
             source,
             knowledge,
             ..
-        } => knowledge_inputs(rt, alloc, *source, candidates, knowledge),
-        Task::Outcomes {
+        }
+        | Task::Outcomes {
             source,
             knowledge,
             ..
-        } => knowledge_inputs(rt, alloc, *source, candidates, knowledge),
-        Task::Graph {
+        }
+        | Task::Graph {
             source,
             knowledge,
             ..

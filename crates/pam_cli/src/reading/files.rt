@@ -8,6 +8,7 @@ ghost use Rattle.pam_cli.specs.Sources.{IsUnread};
 
 use crate::reading::inside::{Folder, Reached};
 use pam_report::InputError;
+use pam_text::MAX_FILE_BYTES;
 use std::alloc::{AllocError, Global};
 use std::fs::{Metadata, OpenFile};
 use std::io::{ErrorKind, Read};
@@ -16,7 +17,7 @@ use std::{fs, io};
 
 /// The most bytes read from a file: one more than a table or configuration file may have, so that a longer file is
 /// noticed.
-const MOST: u64 = 1_048_577;
+const READ_LIMIT: u64 = MAX_FILE_BYTES as u64 + 1;
 
 /// Converts a failed read of this name, which may be a failed allocation too.
 pub(super) fn unread(alloc: Global, name: &str, error: &io::Error) -> InputError
@@ -35,8 +36,8 @@ pub(super) fn unread(alloc: Global, name: &str, error: &io::Error) -> InputError
 /// file can grow.
 fn bytes_of<F: Read + Drop>(alloc: Global, file: F, len: u64) -> io::Result<Vec<u8>> {
     // Room for one byte more, so that the end is found without growing.
-    let mut bytes = Vec::with_capacity(alloc, len.min(MOST) as usize + 1)?;
-    file.take(MOST).read_to_end(&mut bytes)?;
+    let mut bytes = Vec::with_capacity(alloc, len.min(READ_LIMIT) as usize + 1)?;
+    file.take(READ_LIMIT).read_to_end(&mut bytes)?;
     Ok(bytes)
 }
 

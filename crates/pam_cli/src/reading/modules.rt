@@ -113,9 +113,7 @@ fn put_folders<R: std::rt::Files + AllocGlobal + Clone + Drop>(
     ensures error { IfErr result (IsUnread (λ n. Member n (map (λ f. f.now) folders.now))) }
 {
     for folder in folders {
-        if let Err(error) = put_folder(rt, alloc, Folder::of_system(folder), found) {
-            return Err(error);
-        }
+        put_folder(rt, alloc, Folder::of_system(folder), found)?;
     }
     Ok(())
 }

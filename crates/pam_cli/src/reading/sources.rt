@@ -28,8 +28,7 @@ const VENDOR: &str = "usr/lib/pam.d";
 /// The one file of a system without these folders.
 const FILE: &str = "etc/pam.conf";
 
-/// The files of a source, and the paths under which they were read: that of the whole configuration, and then that of
-/// each file.
+/// The files of a source, and the paths under which they were read: first the path of the whole configuration, then each file's.
 #[derive(Drop)]
 pub(super) struct SourceFiles {
     pub(super) files: Files,
