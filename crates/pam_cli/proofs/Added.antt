@@ -1,17 +1,15 @@
 -- Files that are added to those of a source.
-use Rattle.std.proofs.Common.{◌≡◌, ◌∙◌, ◌++◌, ◌||◌, ◌+◌, Bool, true, false, not, cond, List, [], ◌∷◌, ℕ, suc, append_assoc, append-nil, ap, map, refl, sym}
+use Rattle.std.proofs.Common.{◌≡◌, ◌∙◌, ◌++◌, ◌||◌, ◌+◌, Bool, true, false, not, cond, List, [], ◌∷◌, ℕ, suc, ap, map, refl, sym}
 use Rattle.std.proofs.Common.{Some, None, arith, is_some, length, nat_lt}
 use Rattle.std.proofs.lemmas.Bool.Decides.{nat_tests}
-use Rattle.std.proofs.lemmas.List.{map-append}
-use Rattle.std.proofs.lemmas.List.Folds.{list_any-append}
 use Rattle.std.specs.List.{list_any, position_or_len}
 use Rattle.std.specs.Str.{bytes_eq}
-use Rattle.pam_conf.specs.Files.{Folder, Named, position_of, put_file}
-use Rattle.pam_cli.specs.Sources.{IsThen, is_given, path_in}
-use Rattle.pam_cli.specs.inner.Sources.{AddsFile, AddsFiles}
-use Rattle.pam_cli.specs.declared.reading.sources.SourceFiles.{SourceFiles}
+use Rattle.pam_conf.specs.Files.{Named, position_of, put_file}
+use Rattle.pam_cli.specs.Sources.{is_given}
 
-any-map : {A : Type 0} (text : A → List ℕ) (name : List ℕ) (xs : List A) → list_any (λ x. bytes_eq name (text x)) xs ≡ list_any (bytes_eq name) (map text xs)
+-- one of the names passes if and only if one of their list does
+pub any-map : {A : Type 0} (text : A → List ℕ) (name : List ℕ) (xs : List A)
+    → list_any (λ x. bytes_eq name (text x)) xs ≡ list_any (bytes_eq name) (map text xs)
 any-map text name [] = refl
 any-map text name (x ∷ xs) = ap (λ t. bytes_eq name (text x) || t) (any-map text name xs)
 
@@ -58,61 +56,13 @@ some_if x false = refl
 pub is_given_found : (name : List ℕ) (files : List Named) → is_some (position_of name files) ≡ is_given name files
 is_given_found name files = some_if _ _ ∙ found_before (λ f. bytes_eq name f.0) files
 
-first_of_none : (a b : Bool) → (a || b) ≡ false → a ≡ false
+pub first_of_none : (a b : Bool) → (a || b) ≡ false → a ≡ false
 first_of_none true b none = cc
 first_of_none false b none = refl
 
-second_of_none : (a b : Bool) → (a || b) ≡ false → b ≡ false
+pub second_of_none : (a b : Bool) → (a || b) ≡ false → b ≡ false
 second_of_none true b none = cc
 second_of_none false b none = none
 
-neither : (a b : Bool) → a ≡ false → b ≡ false → (a || b) ≡ false
+pub neither : (a b : Bool) → a ≡ false → b ≡ false → (a || b) ≡ false
 neither a b first second = rw (first, second) refl
-
--- what is lacked by more files is lacked by fewer
-lacked_by_fewer : (few more files : List Named) → list_any (λ f. is_given f.0 (few ++ more)) files ≡ false → list_any (λ f. is_given f.0 few) files ≡ false
-lacked_by_fewer few more [] lacked = refl
-lacked_by_fewer few more (f ∷ files) lacked =
-    let all = is_given f.0 (few ++ more) in
-    let here = first_of_none all (list_any (λ g. is_given g.0 (few ++ more)) files) lacked in
-    neither _ _
-    (first_of_none (is_given f.0 few) (is_given f.0 more) (sym (list_any-append (λ g. bytes_eq f.0 g.0) few more) ∙ here))
-    (lacked_by_fewer few more files (second_of_none all (list_any (λ g. is_given g.0 (few ++ more)) files) lacked))
-
-pub no_more : (folder : List ℕ) (found : SourceFiles) → AddsFiles folder found found
-no_more folder found = record {
-  more = [];
-  form = refl;
-  entries = sym (append-nil found.files.entries);
-  paths = sym (append-nil found.paths);
-  lacked = refl;
-}
-
-pub one_more : (folder name bytes path : List ℕ) (old new : SourceFiles) → is_given name old.files.entries ≡ false → path ≡ path_in folder (name, bytes)
-    → AddsFile name bytes path old new → AddsFiles folder old new
-one_more folder name bytes path old new lacked at added = record {
-  more = (name, bytes) ∷ [];
-  form = ap (λ f. f.form) added.files;
-  entries = ap (λ f. f.entries) added.files;
-  paths = added.paths ∙ ap (λ p. old.paths ++ p ∷ []) at;
-  lacked = neither _ _ lacked refl;
-}
-
--- more files of a folder, and then more of it
-then_read : (folder : List ℕ) (first mid last : Folder) (first_places mid_places last_places : List (List ℕ))
-    → IsThen folder first first_places mid mid_places → IsThen folder mid mid_places last last_places → IsThen folder first first_places last last_places
-then_read folder first mid last first_places mid_places last_places before after = record {
-  more = before.more ++ after.more;
-  form = after.form ∙ before.form;
-  entries = after.entries ∙ ap (λ es. es ++ after.more) before.entries ∙ append_assoc first.entries before.more after.more;
-  paths = after.paths ∙ ap (λ ps. ps ++ map (path_in folder) after.more) before.paths
-      ∙ append_assoc first_places (map (path_in folder) before.more) (map (path_in folder) after.more)
-      ∙ ap (λ ps. first_places ++ ps) (sym (map-append (path_in folder) before.more after.more));
-  lacked = list_any-append (λ f. is_given f.0 first.entries) before.more after.more
-      ∙ neither _ _ before.lacked
-      (lacked_by_fewer first.entries before.more after.more
-      (ap (λ es. list_any (λ f. is_given f.0 es) after.more) (sym before.entries) ∙ after.lacked));
-}
-
-pub then_more : (folder : List ℕ) (old mid new : SourceFiles) → AddsFiles folder old mid → AddsFiles folder mid new → AddsFiles folder old new
-then_more folder old mid new before after = then_read folder old.files mid.files new.files old.paths mid.paths new.paths before after

@@ -1,6 +1,8 @@
 -- Folders of a list.
-use Rattle.std.proofs.Common.{arith, ◌≡◌, ℕ, ◌<◌, List, [], ◌∷◌, get_or, inl, inr, length, map, refl, subst, suc, sym, zero}
+use Rattle.std.proofs.Common.{◌≡◌, ℕ, ◌+◌, ◌<◌, ◌≤◌, Bool, true, List, [], ◌∷◌, add-one, arith, get_or, inl, inr, length, map, refl}
+use Rattle.std.proofs.Common.{subst, suc, sym, take, zero}
 use Rattle.pam_cli.specs.Sources.{IsUnread}
+use Rattle.pam_cli.specs.inner.Reading.{known_with}
 use Rattle.pam_paths.specs.Classes.{Member}
 use Rattle.pam_report.specs.declared.inputs.InputError.{InputError}
 use Rattle.pam_report.specs.declared.inputs.InputError.TheVariants.{Read, Memory}
@@ -17,3 +19,15 @@ pub unread-one : (names : List (List ℕ)) (name : List ℕ) (error : InputError
     → IsUnread (λ n. Member n names) error
 unread-one names name Memory m h = tt
 unread-one names name (Read text) m h = subst (λ (n : List ℕ). Member n names) (sym h) m
+
+-- which modules are there is known with one more folder
+pub known-next : {A : Type 0} (known : Bool) (xs : List A) (i : ℕ) → i < length xs → known_with (take (i + 1) xs) known ≡ true
+known-next known [] i h = absurd (omega (arith, h))
+known-next known (x ∷ xs) i h = rw add-one refl
+
+-- no folder is left
+pub known-all : {A : Type 0} (known : Bool) (xs : List A) (i : ℕ) → length xs ≤ i → known_with (take i xs) known ≡ known_with xs known
+known-all known [] zero h = refl
+known-all known [] (suc i) h = refl
+known-all known (x ∷ xs) zero h = absurd (omega (arith, h))
+known-all known (x ∷ xs) (suc i) h = refl

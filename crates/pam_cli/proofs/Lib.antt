@@ -1,3 +1,5 @@
 mod Added
 mod Candidates
+mod Entries
 mod Folders
+mod Rising

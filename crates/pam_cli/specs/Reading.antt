@@ -1,10 +1,11 @@
 -- What is read for a task: the inputs that fit it, or the input that cannot be read.
 use Rattle.std.specs.Prelude.{◌≡◌, ◌⊎◌, ◌&&◌, ⊤, Bool, false, true, ℕ, List, [], ◌∷◌, MatchOption, Option, Some, None, Result, Ok, Err, codes, is_some, map}
+use Rattle.std.specs.Borrow.{Bor}
 use Rattle.std.specs.Option.{option_copied}
 use Rattle.std.specs.Path.{path_join}
 use Rattle.clap.specs.Words.{Text}
 use Rattle.pam_paths.specs.Classes.{Member}
-use Rattle.pam_report.specs.Inputs.{fits_task}
+use Rattle.pam_report.specs.Inputs.{fits_task, there_given}
 use Rattle.pam_report.specs.declared.inputs.SideInputs.{SideInputs}
 use Rattle.pam_report.specs.declared.inputs.InputError.{InputError}
 use Rattle.pam_report.specs.declared.inputs.Inputs.{Inputs}
@@ -68,23 +69,39 @@ abbrev pub HasKnownTables : ConfSource → KnowledgeSource → Inputs → Type 0
 HasKnownTables source named (inputs.Paths files given) = AreKnownTables source named given.tables
 HasKnownTables source named given = ⊤
 
--- a side of a comparison is read from its source
-abbrev pub IsSide : ConfSource → SideInputs → Type 0
-IsSide source side = IsFrom [] source side.files
+-- no folder of modules is named: it is not known which modules are there, unless the source is a system, which may have such folders
+abbrev pub HasOwnModules : ConfSource → Option (List Text) → Type 0
+HasOwnModules (Root root) there = ⊤
+HasOwnModules source there = there ≡ None
+
+-- WHETHER IT IS KNOWN which modules are there: it is if a folder of modules is named
+abbrev pub HasModules : ConfSource → List (Bor Text) → Option (List Text) → Type 0
+HasModules source [] there = HasOwnModules source there
+HasModules source (folder ∷ folders) there = is_some there ≡ true
+
+-- a side of a comparison is read from its source, and its modules are known by that source and the folders that are named
+abbrev pub IsSide : ConfSource → CompareFiles → SideInputs → Type 0
+IsSide source named side = IsFrom [] source side.files × HasModules source named.modules.items side.there
 
 -- the old configuration is read from the first source, and the new one from the second
-abbrev pub HasSides : ConfSource → ConfSource → Inputs → Type 0
-HasSides old new (inputs.Sides old_side new_side facts returns) = IsSide old old_side × IsSide new new_side
-HasSides old new given = ⊤
+abbrev pub HasSides : ConfSource → ConfSource → CompareFiles → Inputs → Type 0
+HasSides old new named (inputs.Sides old_side new_side facts returns) = IsSide old named old_side × IsSide new named new_side
+HasSides old new named given = ⊤
+
+-- a configuration, the tables that tell the answers of its modules, and whether it is known which modules are there
+abbrev pub HasKnowledge : List (Text × Text) → ConfSource → KnowledgeSource → Inputs → Type 0
+HasKnowledge candidates source named given =
+    HasFiles candidates source given × HasKnownTables source named given × HasModules source named.modules.items (there_given given)
 
 abbrev pub HasSource : List (Text × Text) → Task → Inputs → Type 0
-HasSource candidates (Check source services fail_on named) given = HasFiles candidates source given × HasTables source named given
-HasSource candidates (Compare old new service kind named) given = HasSides old new given
+HasSource candidates (Check source services fail_on named) given =
+    HasFiles candidates source given × HasTables source named given × HasModules source named.modules.items (there_given given)
+HasSource candidates (Compare old new service kind named) given = HasSides old new named given
 HasSource candidates (Show source kind release) given = HasFiles candidates source given
 HasSource candidates (Decide source kind answered) given = HasFiles candidates source given
-HasSource candidates (Paths source kind limit part filter knowledge) given = HasFiles candidates source given × HasKnownTables source knowledge given
-HasSource candidates (Outcomes source kind knowledge) given = HasFiles candidates source given × HasKnownTables source knowledge given
-HasSource candidates (Graph source kind format knowledge) given = HasFiles candidates source given × HasKnownTables source knowledge given
+HasSource candidates (Paths source kind limit part filter knowledge) given = HasKnowledge candidates source knowledge given
+HasSource candidates (Outcomes source kind knowledge) given = HasKnowledge candidates source knowledge given
+HasSource candidates (Graph source kind format knowledge) given = HasKnowledge candidates source knowledge given
 HasSource candidates task given = ⊤
 
 -- THE INPUTS of a task with these candidates: those of exactly the files that are named

@@ -1,6 +1,9 @@
 -- What is read of a source: its files, and the paths under which they were read.
 use Rattle.std.specs.Prelude.{◌≡◌, ◌⊎◌, ⊤, Bool, false, not, ℕ, List, [], ◌∷◌, ◌++◌, codes, map, string_bytes}
+use Rattle.std.specs.Cmp.Lexicographic.{slice_cmp}
 use Rattle.std.specs.List.{filter, list_any}
+use Rattle.std.specs.List.Sorted.{IsStrictlySortedBy}
+use Rattle.std.specs.Ordering.{nat_cmp}
 use Rattle.std.specs.Path.{path_join}
 use Rattle.std.specs.Str.{bytes_eq}
 use Rattle.clap.specs.Words.{Text}
@@ -32,13 +35,14 @@ pub record IsOfCandidates (candidates : List (Text × Text)) (folder : Text) (fo
   pub names : map (λ f. f.0) found.entries ≡ map (λ c. c.0) (firsts_of candidates)
   pub paths : places ≡ folder ∷ map (λ c. c.1) (firsts_of candidates)
 
--- files, and then those of a folder whose names they lack
+-- files, and then those of a folder whose names they lack, in rising byte order of their names
 pub record IsThen (folder : Text) (first : Folder) (first_places : List Text) (found : Folder) (places : List Text) : Type 0 where
   pub more : List Named
   pub form : found.form ≡ first.form
   pub entries : found.entries ≡ first.entries ++ more
   pub paths : places ≡ first_places ++ map (path_in folder) more
   pub lacked : list_any (λ f. is_given f.0 first.entries) more ≡ false
+  pub rising : IsStrictlySortedBy (slice_cmp nat_cmp) (map (λ f. f.0) more)
 
 -- the files of the candidates, and then those of a folder whose names no candidate has
 abbrev pub IsOfFolder : List (Text × Text) → Text → Folder → List Text → Type 0

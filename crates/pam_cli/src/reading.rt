@@ -107,7 +107,7 @@ fn side_inputs<R: std::rt::Files + AllocGlobal + Clone + Drop>(
     source: ConfSource<'_>,
     named: &CompareFiles<'_>,
 ) -> Result<SideInputs, InputError>
-    ensures { MatchResult result (IsSide source.entry) (IsUnread (IsOfSide source.entry named.now)) }
+    ensures { MatchResult result (IsSide source.entry named.now) (IsUnread (IsOfSide source.entry named.now)) }
 {
     let files = source_files(rt, alloc, source, &[])?.files;
     let there = modules_there(rt, alloc, source, &named.modules, &files)?;
@@ -227,13 +227,13 @@ pub(crate) fn inputs_of<R: std::rt::Files + AllocGlobal + Clone + Drop>(
             source,
             knowledge,
             ..
-        } => knowledge_inputs(rt, alloc, *source, candidates, knowledge),
-        Task::Outcomes {
+        }
+        | Task::Outcomes {
             source,
             knowledge,
             ..
-        } => knowledge_inputs(rt, alloc, *source, candidates, knowledge),
-        Task::Graph {
+        }
+        | Task::Graph {
             source,
             knowledge,
             ..

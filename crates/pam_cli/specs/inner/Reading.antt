@@ -1,5 +1,5 @@
 -- For private contracts and proofs alone: what is read for a task.
-use Rattle.std.specs.Prelude.{◌≡◌, ◌⊎◌, ◌&&◌, true, ℕ, List, Option, Result, Ok, Err, is_some, map}
+use Rattle.std.specs.Prelude.{◌≡◌, ◌⊎◌, ◌&&◌, ⊤, Bool, true, ℕ, List, [], ◌∷◌, Option, Result, Ok, Err, is_some, map}
 use Rattle.std.specs.Borrow.{Bor}
 use Rattle.std.specs.Bool.{beq}
 use Rattle.clap.specs.Words.{Text}
@@ -12,17 +12,28 @@ use Rattle.pam_report.specs.declared.inputs.InputError.{InputError}
 use Rattle.pam_report.specs.declared.inputs.Inputs.{Inputs}
 use Rattle.pam_words.specs.declared.wanted.CompareFiles.{CompareFiles}
 use Rattle.pam_words.specs.declared.wanted.ConfSource.{ConfSource}
+use Rattle.pam_words.specs.declared.wanted.ConfSource.TheVariants.{Root}
 use Rattle.pam_words.specs.declared.wanted.KnowledgeSource.{KnowledgeSource}
 use Rattle.pam_words.specs.declared.wanted.LevelName.{LevelName}
 use Rattle.pam_words.specs.declared.wanted.Login.{Login}
 use Rattle.pam_words.specs.declared.wanted.Task.TheVariants.{Check, Compare, Access}
 use Rattle.pam_words.specs.declared.wanted.CheckFiles.{CheckFiles}
 use Rattle.pam_cli.specs.Sources.{IsInSource, IsUnread}
-use Rattle.pam_cli.specs.Reading.{HasFiles, AreTables, AreKnownTables, HasKnownTables, IsOfKnowledge, IsOfCheck, IsReading}
+use Rattle.pam_cli.specs.Reading.{AreTables, AreKnownTables, HasKnowledge, HasModules, IsOfKnowledge, IsOfCheck, IsReading}
 
 -- a name of the source of a side, or one of the folders of modules
 abbrev pub IsOfSide : ConfSource → CompareFiles → List ℕ → Type 0
 IsOfSide source named name = IsInSource source name ⊎ Member name (map (λ folder. folder.now) named.modules.items)
+
+-- whether it is known which modules are there, once these folders are read
+abbrev pub known_with : {A : Type 0} → List A → Bool → Bool
+known_with [] known = known
+known_with (folder ∷ folders) known = true
+
+-- only the source of a system has folders of modules of its own
+abbrev pub KeepsKnown : ConfSource → Bool → Bool → Type 0
+KeepsKnown (Root root) old new = ⊤
+KeepsKnown source old new = new ≡ old
 
 -- a file is given if and only if one is named
 abbrev pub IsGiven : {A B : Type 0} → Option A → Option B → Type 0
@@ -40,14 +51,15 @@ IsCompareReading old new named result =
 
 -- what a check is given besides the configuration
 abbrev pub IsGivenReading : ConfSource → CheckFiles → Result CheckInputs InputError → Type 0
-IsGivenReading source named (Ok given) = (fits_check named given ≡ true) × AreTables true true source named.tables given.tables
+IsGivenReading source named (Ok given) =
+    (fits_check named given ≡ true) × AreTables true true source named.tables given.tables × HasModules source named.modules.items given.there
 IsGivenReading source named (Err error) = IsUnread (λ name. IsInSource source name ⊎ IsOfCheck named name) error
 
 -- what is known besides the configuration, for each task about paths
 abbrev pub IsKnownReading : ConfSource → KnowledgeSource → Result KnowledgeInputs InputError → Type 0
 IsKnownReading source named (Ok given) =
     (beq (is_some given.returns) (is_some named.returns) && has_named_tables named.tables given.tables ≡ true)
-    × AreKnownTables source named given.tables
+    × AreKnownTables source named given.tables × HasModules source named.modules.items given.there
 IsKnownReading source named (Err error) = IsUnread (IsOfKnowledge source named) error
 
 -- what is read for each `access` of these files
@@ -57,6 +69,5 @@ IsAccessReading table groups result =
 
 -- what is read for each task about this source with what is known of answers
 abbrev pub IsKnowledgeReading : List (Text × Text) → ConfSource → KnowledgeSource → Result Inputs InputError → Type 0
-IsKnowledgeReading candidates source named (Ok given) =
-    (fits_knowledge named given ≡ true) × HasFiles candidates source given × HasKnownTables source named given
+IsKnowledgeReading candidates source named (Ok given) = (fits_knowledge named given ≡ true) × HasKnowledge candidates source named given
 IsKnowledgeReading candidates source named (Err error) = IsUnread (IsOfKnowledge source named) error

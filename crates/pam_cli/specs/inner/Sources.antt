@@ -1,5 +1,9 @@
 -- For private contracts and proofs alone: what is read of a source.
-use Rattle.std.specs.Prelude.{◌≡◌, [], ◌∷◌, ◌++◌, map, if◌then◌else◌}
+use Rattle.std.specs.Prelude.{◌≡◌, ◌⊎◌, ⊤, false, ℕ, List, [], ◌∷◌, ◌++◌, map, if◌then◌else◌}
+use Rattle.std.specs.Cmp.Lexicographic.{slice_cmp}
+use Rattle.std.specs.List.{AllByRecursion}
+use Rattle.std.specs.Ordering.{is_lt, nat_cmp}
+use Rattle.std.specs.Path.{path_join}
 use Rattle.clap.specs.Words.{Text}
 use Rattle.pam_conf.specs.declared.rule.Form.{Form}
 use Rattle.pam_cli.specs.declared.reading.sources.SourceFiles.{SourceFiles}
@@ -25,3 +29,18 @@ pub record AddsCandidate (candidate : Text × Text) (old new : SourceFiles) : Ty
 -- some files of a folder are added, whose names were lacked
 abbrev pub AddsFiles : Text → SourceFiles → SourceFiles → Type 0
 AddsFiles folder old new = IsThen folder old.files old.paths new.files new.paths
+
+-- the file of this name is added, unless there is one already or it is no regular file
+abbrev pub AddsEntry : Text → Text → SourceFiles → SourceFiles → Type 0
+AddsEntry folder name old new =
+    (new ≡ old) ⊎ ((is_given name old.files.entries ≡ false) × ((bytes : List ℕ) × AddsFile name bytes (path_join folder name) old new))
+
+-- no name comes before an earlier one, in byte order
+abbrev pub AreInOrder : List Text → Type 0
+AreInOrder [] = ⊤
+AreInOrder (name ∷ names) = AllByRecursion (λ later. is_lt (slice_cmp nat_cmp later name) ≡ false) names × AreInOrder names
+
+-- some files of a folder are added, and the names that are left come in order after theirs
+pub record AddsBefore (folder : Text) (left : List Text) (old new : SourceFiles) : Type 0 where
+  pub added : AddsFiles folder old new
+  pub order : AreInOrder (map (λ f. f.0) added.more ++ left)

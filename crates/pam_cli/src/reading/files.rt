@@ -1,10 +1,14 @@
 //! Reads files and folders.
 
-ghost use Rattle.std.specs.Prelude.{◌≡◌, IfErr};
+ghost use Rattle.std.specs.Prelude.{◌≡◌, IfErr, IfOk, string_bytes};
+ghost use Rattle.std.specs.Cmp.Lexicographic.{slice_cmp};
+ghost use Rattle.std.specs.List.Sorted.{IsSortedByKey};
+ghost use Rattle.std.specs.Ordering.{nat_cmp};
 ghost use Rattle.pam_cli.specs.Sources.{IsUnread};
 
 use crate::reading::inside::{Folder, Reached};
 use pam_report::InputError;
+use pam_text::MAX_FILE_BYTES;
 use std::alloc::{AllocError, Global};
 use std::fs::{Metadata, OpenFile};
 use std::io::{ErrorKind, Read};
@@ -13,7 +17,7 @@ use std::{fs, io};
 
 /// The most bytes read from a file: one more than a table or configuration file may have, so that a longer file is
 /// noticed.
-const MOST: u64 = 1_048_577;
+const READ_LIMIT: u64 = MAX_FILE_BYTES as u64 + 1;
 
 /// Converts a failed read of this name, which may be a failed allocation too.
 pub(super) fn unread(alloc: Global, name: &str, error: &io::Error) -> InputError
@@ -32,8 +36,8 @@ pub(super) fn unread(alloc: Global, name: &str, error: &io::Error) -> InputError
 /// file can grow.
 fn bytes_of<F: Read + Drop>(alloc: Global, file: F, len: u64) -> io::Result<Vec<u8>> {
     // Room for one byte more, so that the end is found without growing.
-    let mut bytes = Vec::with_capacity(alloc, len.min(MOST) as usize + 1)?;
-    file.take(MOST).read_to_end(&mut bytes)?;
+    let mut bytes = Vec::with_capacity(alloc, len.min(READ_LIMIT) as usize + 1)?;
+    file.take(READ_LIMIT).read_to_end(&mut bytes)?;
     Ok(bytes)
 }
 
@@ -136,17 +140,34 @@ fn push_name(alloc: Global, names: &mut Vec<String>, name: &str) -> Result<(), A
 }
 
 /// Returns the names of the entries of a folder, in ascending byte order.
-pub(super) fn entry_names<R: std::rt::Files + AllocGlobal + Clone + Drop>(
+fn entry_names<R: std::rt::Files + AllocGlobal + Clone + Drop>(
     rt: &R,
     alloc: Global,
     folder: &str,
-) -> io::Result<Vec<String>> {
+) -> io::Result<Vec<String>>
+    ensures { IfOk result (λ names. IsSortedByKey string_bytes (slice_cmp nat_cmp) names.items) }
+{
     let mut names = Vec::new(alloc);
     for entry in fs::read_dir(rt, folder)? {
         push_name(alloc, &mut names, entry?.file_name())?;
     }
     names.sort()?;
     Ok(names)
+}
+
+/// Returns the names of the entries of a folder that is shown by its path, in ascending byte order.
+pub(super) fn names_in<R: std::rt::Files + AllocGlobal + Clone + Drop>(
+    rt: &R,
+    alloc: Global,
+    folder: Folder<'_>,
+) -> Result<Vec<String>, InputError>
+    ensures ok { IfOk result (λ names. IsSortedByKey string_bytes (slice_cmp nat_cmp) names.items) }
+    ensures error { IfErr result (IsUnread (λ n. n ≡ folder.entry.shown.now)) }
+{
+    match entry_names(rt, alloc, folder.path) {
+        Ok(names) => Ok(names),
+        Err(error) => Err(unread(alloc, folder.shown, &error)),
+    }
 }
 
 /// Reads what was found at a path, if it is a regular file.

@@ -9,10 +9,10 @@ use std::path::{Path, PathBuf};
 use std::{fs, io};
 
 /// The most links that are followed on the way along a path, as in the kernel.
-const MOST_LINKS: usize = 40;
+const MAX_LINKS: usize = 40;
 
 /// The most bytes of a path, as in the kernel.
-const MOST_BYTES: usize = 4095;
+const MAX_PATH_BYTES: usize = 4095;
 
 /// A folder, as it is shown and as it is reached.
 #[derive(Clone, Copy)]
@@ -142,11 +142,11 @@ impl Walk<'_> {
 
     /// Walks along a path to its end.
     fn follow<R: std::rt::Files>(&mut self, rt: &R, alloc: Global, path: &str) -> io::Result<()> {
-        if path.len() > MOST_BYTES {
+        if path.len() > MAX_PATH_BYTES {
             return Err(io::Error::from(ErrorKind::InvalidFilename));
         }
         let mut ahead = PathBuf::from_str(alloc, path)?;
-        for links in self.reached.links..=MOST_LINKS {
+        for links in self.reached.links..=MAX_LINKS {
             self.reached.links = links;
             match self.to_link(rt, alloc, ahead.as_str())? {
                 Some(next) => ahead = next,

@@ -1,10 +1,12 @@
 //! Looks for the modules that are there: pam.conf(5), module-path.
 
-ghost use Rattle.std.specs.Prelude.{◌≡◌, ◌⊎◌, IfErr, map};
+ghost use Rattle.std.specs.Prelude.{◌≡◌, ◌⊎◌, true, IfErr, IfOk, OnOk, map};
 ghost use Rattle.pam_paths.specs.Classes.{Member};
+ghost use Rattle.pam_cli.specs.Reading.{HasModules};
 ghost use Rattle.pam_cli.specs.Sources.{IsInSource, IsUnread};
+ghost use Rattle.pam_cli.specs.inner.Reading.{KeepsKnown, known_with};
 
-use crate::reading::files::{entry_names, find_folder, found_at, is_of_target, unread};
+use crate::reading::files::{find_folder, found_at, is_of_target, names_in, unread};
 use crate::reading::inside::Folder;
 use crate::reading::module_paths::ModulePaths;
 use indexmap::IndexSet;
@@ -71,16 +73,13 @@ impl Found {
         Ok(())
     }
 
-    /// Returns the paths, unless no folder of modules was read.
-    fn into_texts(self, alloc: Global) -> Result<Option<Texts>, AllocError> {
-        if !self.is_known {
-            return Ok(None);
-        }
+    /// Returns the paths.
+    fn into_texts(self, alloc: Global) -> Result<Texts, AllocError> {
         let mut texts = Texts::new(alloc);
         for path in &self.paths {
             texts.push(path)?;
         }
-        Ok(Some(texts))
+        Ok(texts)
     }
 }
 
@@ -91,17 +90,16 @@ fn put_folder<R: std::rt::Files + AllocGlobal + Clone + Drop>(
     folder: Folder<'_>,
     found: &mut Found,
 ) -> Result<(), InputError>
-    ensures { IfErr result (IsUnread (λ n. n ≡ folder.entry.shown.now)) }
+    ensures ok { OnOk result (found.new.is_known ≡ true) }
+    ensures error { IfErr result (IsUnread (λ n. n ≡ folder.entry.shown.now)) }
 {
-    let names = match entry_names(rt, alloc, folder.path) {
-        Ok(names) => names,
-        Err(error) => return Err(unread(alloc, folder.shown, &error)),
-    };
-    found.is_known = true;
+    let names = names_in(rt, alloc, folder)?;
     for name in names {
         found.put(alloc, name.as_bytes())?;
     }
-    Ok(found.put_named(rt, alloc, folder, false)?)
+    found.put_named(rt, alloc, folder, false)?;
+    found.is_known = true;
+    Ok(())
 }
 
 /// Adds the names of the entries of these folders of modules.
@@ -111,12 +109,11 @@ fn put_folders<R: std::rt::Files + AllocGlobal + Clone + Drop>(
     folders: &[&str],
     found: &mut Found,
 ) -> Result<(), InputError>
-    ensures { IfErr result (IsUnread (λ n. Member n (map (λ f. f.now) folders.now))) }
+    ensures ok { OnOk result (found.new.is_known ≡ known_with folders.now found.old.is_known) }
+    ensures error { IfErr result (IsUnread (λ n. Member n (map (λ f. f.now) folders.now))) }
 {
     for folder in folders {
-        if let Err(error) = put_folder(rt, alloc, Folder::of_system(folder), found) {
-            return Err(error);
-        }
+        put_folder(rt, alloc, Folder::of_system(folder), found)?;
     }
     Ok(())
 }
@@ -153,10 +150,7 @@ fn put_library<R: std::rt::Files + AllocGlobal + Clone + Drop>(
     found: &mut Found,
 ) -> Result<(), InputError> {
     put_security(rt, alloc, library, SECURITY, found)?;
-    let names = match entry_names(rt, alloc, library.path) {
-        Ok(names) => names,
-        Err(error) => return Err(unread(alloc, library.shown, &error)),
-    };
+    let names = names_in(rt, alloc, library)?;
     for name in names {
         if is_triplet(name.as_str()) {
             let path = Path::new(name.as_str()).join(alloc, SECURITY)?;
@@ -202,7 +196,8 @@ fn put_source<R: std::rt::Files + AllocGlobal + Clone + Drop>(
     source: ConfSource<'_>,
     found: &mut Found,
 ) -> Result<(), InputError>
-    ensures { IfErr result (IsUnread (IsInSource source.entry)) }
+    ensures ok { OnOk result (KeepsKnown source.entry found.old.is_known found.new.is_known) }
+    ensures error { IfErr result (IsUnread (IsInSource source.entry)) }
 {
     match source {
         ConfSource::Root(_) => put_system(rt, alloc, root_of(source), found),
@@ -220,7 +215,8 @@ pub(super) fn modules_there<R: std::rt::Files + AllocGlobal + Clone + Drop>(
     folders: &[&str],
     files: &Files,
 ) -> Result<Option<Texts>, InputError>
-    ensures { IfErr result (IsUnread (λ n. IsInSource source.entry n ⊎ Member n (map (λ f. f.now) folders.now))) }
+    ensures ok { IfOk result (HasModules source.entry folders.now) }
+    ensures error { IfErr result (IsUnread (λ n. IsInSource source.entry n ⊎ Member n (map (λ f. f.now) folders.now))) }
 {
     let mut found = Found {
         named: ModulePaths::of(alloc, files)?,
@@ -229,8 +225,9 @@ pub(super) fn modules_there<R: std::rt::Files + AllocGlobal + Clone + Drop>(
     };
     put_source(rt, alloc, source, &mut found)?;
     put_folders(rt, alloc, folders, &mut found)?;
-    if found.is_known {
-        found.put_named(rt, alloc, root_of(source), true)?;
+    if !found.is_known {
+        return Ok(None);
     }
-    Ok(found.into_texts(alloc)?)
+    found.put_named(rt, alloc, root_of(source), true)?;
+    Ok(Some(found.into_texts(alloc)?))
 }

@@ -3,11 +3,11 @@
 ghost use Rattle.std.specs.Prelude.{◌≡◌, codes, false, IfErr, IfOk, IsOkUnless, MatchResult, OnOk, map, string_bytes};
 ghost use Rattle.std.specs.Path.{path_join};
 ghost use Rattle.pam_cli.specs.Sources.{IsInSource, IsOfCandidates, IsOfFolder, IsOfRoot, IsOneFile, IsOver, IsRead, IsRootFile, IsUnread, is_given};
-ghost use Rattle.pam_cli.specs.inner.Sources.{AddsCandidate, AddsFile, AddsFiles, IsStart};
+ghost use Rattle.pam_cli.specs.inner.Sources.{AddsCandidate, AddsEntry, AddsFile, AddsFiles, IsStart};
 ghost use Rattle.pam_words.specs.Wanted.{candidate_view};
 
 use crate::reading::files::{
-    bytes_if_there, entry_bytes, entry_names, find_folder, found_at, named_file, unread,
+    bytes_if_there, entry_bytes, find_folder, found_at, named_file, names_in, unread,
 };
 use crate::reading::inside::Folder;
 use pam_conf::{Files, Form};
@@ -28,8 +28,7 @@ const VENDOR: &str = "usr/lib/pam.d";
 /// The one file of a system without these folders.
 const FILE: &str = "etc/pam.conf";
 
-/// The files of a source, and the paths under which they were read: that of the whole configuration, and then that of
-/// each file.
+/// The files of a source, and the paths under which they were read: first the path of the whole configuration, then each file's.
 #[derive(Drop)]
 pub(super) struct SourceFiles {
     pub(super) files: Files,
@@ -75,7 +74,7 @@ fn put_entry<R: std::rt::Files>(
     name: String,
     found: &mut SourceFiles,
 ) -> Result<(), InputError>
-    ensures ok { OnOk result (AddsFiles folder.entry.shown.now found.old found.new) }
+    ensures ok { OnOk result (AddsEntry folder.entry.shown.now (string_bytes name) found.old found.new) }
     ensures error { IfErr result (IsUnread (λ n. n ≡ string_bytes name)) }
 {
     if found.has(name.as_bytes()) {
@@ -89,7 +88,8 @@ fn put_entry<R: std::rt::Files>(
     }
 }
 
-/// Adds the regular files of a folder, after links are followed, except those whose names are there already.
+/// Adds the regular files of a folder, after links are followed, in ascending byte order of their names, except those whose names are
+/// there already.
 fn add_folder<R: std::rt::Files + AllocGlobal + Clone + Drop>(
     rt: &R,
     alloc: Global,
@@ -98,10 +98,7 @@ fn add_folder<R: std::rt::Files + AllocGlobal + Clone + Drop>(
 ) -> Result<(), InputError>
     ensures { OnOk result (AddsFiles folder.entry.shown.now found.old found.new) }
 {
-    let names = match entry_names(rt, alloc, folder.path) {
-        Ok(names) => names,
-        Err(error) => return Err(unread(alloc, folder.shown, &error)),
-    };
+    let names = names_in(rt, alloc, folder)?;
     for name in names {
         put_entry(rt, alloc, folder, name, found)?;
     }

@@ -43,7 +43,7 @@ fn named_table<R: std::rt::Files>(
     Ok(TableFile { path, bytes })
 }
 
-/// Reads the own table of the system of this root, if it is there. It is shown by its path.
+/// Reads a table of the system with this root, if it is there. `path` is the path that is shown.
 fn table_if_there<R: std::rt::Files>(
     rt: &R,
     alloc: Global,

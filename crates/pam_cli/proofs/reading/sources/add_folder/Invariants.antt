@@ -1,6 +1,8 @@
--- some files of the folder are added so far
-use Rattle.pam_cli.specs.inner.Sources.{AddsFiles}
+-- files of the folder are added so far, whose names come before those that are left
+use Rattle.std.proofs.Common.{map, string_bytes}
+use Rattle.std.specs.Vec.Iter.{into_iter_items}
+use Rattle.pam_cli.specs.inner.Sources.{AddsBefore}
 use Rattle.pam_cli.proofs.reading.sources.add_folder.Given as goal
 
 abbrev pub invariant-loop-name : goal.invariant-loop-name
-invariant-loop-name g l = AddsFiles l.fn.folder.shown.now l.initial.found l.found
+invariant-loop-name g l = AddsBefore l.fn.folder.shown.now (map string_bytes (into_iter_items l.name-iterator)) l.initial.found l.found
