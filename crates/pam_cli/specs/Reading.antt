@@ -88,7 +88,7 @@ abbrev pub HasSides : ConfSource → ConfSource → CompareFiles → Inputs → 
 HasSides old new named (inputs.Sides old_side new_side facts returns) = IsSide old named old_side × IsSide new named new_side
 HasSides old new named given = ⊤
 
--- a configuration, the tables that tell the answers of its modules, and whether it is known which modules are there
+-- a configuration, the tables that give the answers of its modules, and whether it is known which modules are there
 abbrev pub HasKnowledge : List (Text × Text) → ConfSource → KnowledgeSource → Inputs → Type 0
 HasKnowledge candidates source named given =
     HasFiles candidates source given × HasKnownTables source named given × HasModules source named.modules.items (there_given given)
