@@ -58,8 +58,8 @@ impl CompareLines for AsJson {
 
     ghost line = { line_json };
 
-    fn put_line<W: Write>(&self, line: CompareLine<'_>, out: &mut Out<W>) -> Result<(), Device> {
-        match line {
+    fn put_line<W: Write>(&self, content: CompareLine<'_>, out: &mut Out<W>) -> Result<(), Device> {
+        match content {
             CompareLine::OnlyInOld(name) => put_only_line(name, b"old", out),
             CompareLine::OnlyInNew(name) => put_only_line(name, b"new", out),
             CompareLine::Refused(stack) => put_refused(stack, out),

@@ -28,8 +28,8 @@ pub trait CompareLines {
     ghost line: { Line → List ℕ };
 
     /// Writes a line.
-    fn put_line<W: Write>(&self, line: CompareLine<'_>, out: &mut Out<W>) -> Result<(), Device>
-        ensures { Writes W.contents out.old out.new result (Self.line (line_view line.entry)) };
+    fn put_line<W: Write>(&self, content: CompareLine<'_>, out: &mut Out<W>) -> Result<(), Device>
+        ensures { Writes W.contents out.old out.new result (line (line_view content.entry)) };
 }
 
 /// Writes which configuration alone has a service, but nothing for a service that both or neither has.

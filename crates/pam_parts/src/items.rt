@@ -27,8 +27,8 @@ pub trait StackLines {
     ghost line: { Line → List ℕ };
 
     /// Writes a line.
-    fn put_line<W: Write>(&self, line: StackLine<'_>, out: &mut Out<W>) -> Result<(), Device>
-        ensures { Writes W.contents out.old out.new result (Self.line (line_view line.entry)) };
+    fn put_line<W: Write>(&self, content: StackLine<'_>, out: &mut Out<W>) -> Result<(), Device>
+        ensures { Writes W.contents out.old out.new result (line (line_view content.entry)) };
 }
 
 /// Writes the items of a list at a level. Those of a substack are one level deeper.

@@ -80,8 +80,8 @@ impl CheckLines for AsText {
 
     ghost line = { line_text };
 
-    fn put_line<W: Write>(&self, line: CheckLine<'_>, out: &mut Out<W>) -> Result<(), Device> {
-        match line {
+    fn put_line<W: Write>(&self, content: CheckLine<'_>, out: &mut Out<W>) -> Result<(), Device> {
+        match content {
             CheckLine::Found(found) => put_finding(found, out),
             CheckLine::InTable { paths, finding } => put_table_finding(paths, finding, out),
             CheckLine::Unused { accept, line } => put_unused(accept, line, out),

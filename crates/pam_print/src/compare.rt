@@ -71,8 +71,8 @@ impl CompareLines for AsText {
 
     ghost line = { line_text };
 
-    fn put_line<W: Write>(&self, line: CompareLine<'_>, out: &mut Out<W>) -> Result<(), Device> {
-        match line {
+    fn put_line<W: Write>(&self, content: CompareLine<'_>, out: &mut Out<W>) -> Result<(), Device> {
+        match content {
             CompareLine::OnlyInOld(name) => put_only_line(name, b" only in old\n", out),
             CompareLine::OnlyInNew(name) => put_only_line(name, b" only in new\n", out),
             CompareLine::Refused(stack) => put_refused(stack, out),

@@ -112,8 +112,8 @@ impl StackLines for AsText {
 
     ghost line = { line_text };
 
-    fn put_line<W: Write>(&self, line: StackLine<'_>, out: &mut Out<W>) -> Result<(), Device> {
-        match line {
+    fn put_line<W: Write>(&self, content: StackLine<'_>, out: &mut Out<W>) -> Result<(), Device> {
+        match content {
             StackLine::Head(head) => put_header(head.service, head.kind, head.modules, out),
             StackLine::Module(at, module) => put_module(at, module, out),
             StackLine::Sub(at, sub) => put_sub(at, sub, out),
