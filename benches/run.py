@@ -172,6 +172,14 @@ def reversed_stacks(count):
     return make
 
 
+def including(line):
+    """A number of services, each of which includes a MiB of this line 240 times."""
+    def sized(count):
+        services = {"service%d" % n: b"@include big\n" * 240 + STACK for n in range(count)}
+        return pam_d(big=repeated(line, MIB), **services)
+    return sized
+
+
 READERS = ["paths", "login", "account", "--dir", "d", "--access", "access", "--user", "alice", "--limit", "1"]
 
 CASES = [
@@ -200,6 +208,10 @@ CASES = [
     ("a time table of 1 MiB", ["time", "login", "--time", "time", "--user", "alice", "--tty", "tty1", "--at", "2024-05-06T10:00"],
      time_tables, SIZES, 1),
     ("check of a host of 40 files", ["check", "--dir", "d"], host, (10, 20, 40), 0),
+    ("check of services that include 1 MiB of `session` rules 240 times", ["check", "--dir", "d"], including(b"session required a.so\n"),
+     (25, 50, 100), 0),
+    ("check of services that include 1 MiB of targets that are not there 240 times", ["check", "--dir", "d"], including(b"session include x\n"),
+     (25, 50, 100), 0),
     ("comparison of a host of 30 files with itself", ["compare", "d", "d"], host, (8, 15, 30), 0),
     ("comparison of hosts of 40 files, one line of them changed", ["compare", "old", "d"], changed_host, (10, 20, 40), 0),
     ("comparison of stacks of 12 modules in reverse orders", ["compare", "old", "d", "login", "auth"], reversed_stacks, (3, 6, 12), 0),

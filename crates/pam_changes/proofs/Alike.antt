@@ -22,8 +22,8 @@ use Rattle.pam_dispatch.specs.declared.step.Outcome.{Outcome}
 use Rattle.pam_codes.specs.Code.{all_codes, module_unknown}
 use Rattle.pam_facts.specs.Answers.{answers_at, free_answers, is_there, module_answers}
 use Rattle.pam_facts.specs.Rows.{Row}
-use Rattle.pam_known.specs.Answers.{name_of_path}
-use Rattle.pam_settings.specs.Settings.{SettingText}
+use Rattle.pam_facts.specs.known.Answers.{name_of_path}
+use Rattle.pam_facts.specs.settings.Settings.{SettingText}
 use Rattle.pam_tables.specs.Returns.{ReturnLine}
 use Rattle.pam_changes.specs.Changes.{AreEqual}
 use Rattle.pam_changes.specs.Known.{AreThereAlike, codes_listed, codes_set, codes_told, is_alike, is_alike_at, known_codes, told_at}

@@ -8,7 +8,7 @@ use Rattle.std.specs.Option.{option_and_then, option_map_or}
 use Rattle.pam_compare.specs.Matching.{partner_of}
 use Rattle.pam_dispatch.specs.Runs.{Assignment}
 use Rattle.pam_paths.proofs.Alike.{Member-codes, Member-filter, Member-filter_back, list_any_back, list_any_from}
-use Rattle.pam_paths.specs.Classes.{Member}
+use Rattle.pam_text.specs.Members.{Member}
 use Rattle.pam_changes.specs.Asked.{AreInNewOrder, AreInOldOrder, AreModules, AreShownOnce, IsAsked, IsEitherAsked, IsNew, IsOld, IsOneToOne, Rise}
 use Rattle.pam_changes.specs.Asked.{ShowOthers, new_number, number_alone, old_number}
 use Rattle.pam_changes.specs.declared.steps.AskedModule.{AskedModule}

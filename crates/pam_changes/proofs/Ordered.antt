@@ -5,7 +5,7 @@ use Rattle.std.proofs.lemmas.List.FromFn.{get_or-range_with_len, length-range_wi
 use Rattle.std.proofs.lemmas.List.Kept.{AllPairs-cons}
 use Rattle.std.specs.List.{All, AllPairs, Any, Contains, range_with_len}
 use Rattle.pam_paths.proofs.Listings.{Member-cases, Member-left, Member-map_back, Member-right}
-use Rattle.pam_paths.specs.Classes.{Member}
+use Rattle.pam_text.specs.Members.{Member}
 
 -- MEMBERS BY THEIR PLACE
 

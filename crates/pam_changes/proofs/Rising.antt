@@ -8,7 +8,7 @@ use Rattle.std.specs.List.{range_with_len}
 use Rattle.pam_compare.specs.Matching.{partner_of}
 use Rattle.pam_conf.specs.Stack.{Items, module_count}
 use Rattle.pam_dispatch.specs.Runs.{AsksRise, Assignment, Runs, asked_by, asks, ends, outcome_of}
-use Rattle.pam_paths.specs.Classes.{Member}
+use Rattle.pam_text.specs.Members.{Member}
 use Rattle.pam_changes.specs.Known.{alike_partner, alike_partners, is_alike_at}
 use Rattle.pam_changes.specs.Sides.{SidesText}
 use Rattle.pam_changes.specs.Steps.{asked_numbers}

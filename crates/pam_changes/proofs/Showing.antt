@@ -4,7 +4,7 @@ use Rattle.std.proofs.Common.{Option, Some, None, ap, arith, inl, inr, refl, sub
 use Rattle.std.proofs.lemmas.Bool.{ltb-false}
 use Rattle.pam_dispatch.specs.Runs.{Assignment}
 use Rattle.pam_paths.proofs.Listings.{Member-cases, Member-left, Member-map, Member-map_back, Member-right}
-use Rattle.pam_paths.specs.Classes.{Member}
+use Rattle.pam_text.specs.Members.{Member}
 use Rattle.pam_changes.specs.declared.steps.AskedModule.{AskedModule}
 use Rattle.pam_changes.specs.declared.steps.AskedModule.TheVariants.{New, Both}
 use Rattle.pam_changes.specs.Steps.{as_old, before, from, left_after, merged, one_with, step_of}

@@ -56,7 +56,7 @@ IsOneToOne partners = (i j k : ℕ) → partner_of partners j ≡ Some i → par
 abbrev pub Rise : List ℕ → Type 0
 Rise numbers = AllPairs (λ one other. one < other) numbers
 
--- numbers are those of modules of a stack with so many
+-- numbers are those of modules of a stack with this number of modules
 abbrev pub AreModules : ℕ → List ℕ → Type 0
 AreModules modules numbers = All (λ number. (1 ≤ number) × (number ≤ modules)) numbers
 
@@ -72,7 +72,7 @@ module _ (partners : List (Option ℕ)) (old_answers new_answers : Assignment) (
   IsAsked (Both old new code) =
       (partner_of partners new ≡ Some old) × (old_answers old ≡ code) × (new_answers new ≡ code) × IsEitherAsked old new
 
-  -- WHAT IS SHOWN of two stacks, the new one with so many modules: each module that they ask, once and with its answer, and no other.
+  -- WHAT IS SHOWN of two stacks, where the number given is that of the new one's modules: each module that they ask, once and with its answer, and no other.
   -- Matched modules that answer alike are shown as one. Modules of the new stack are in order, and before one of the old stack that is
   -- shown alone there are only earlier ones of that stack
   pub record AreShownOnce (modules : ℕ) (shown : List AskedModule) : Type 0 where

@@ -7,8 +7,8 @@ use Rattle.pam_compare.specs.Matching.{partner_of}
 use Rattle.pam_conf.specs.Stack.{Items, ModuleText, module_at, module_count}
 use Rattle.pam_conf.specs.declared.rule.Kind.{Kind}
 use Rattle.pam_facts.specs.Answers.{free_answers, is_there}
-use Rattle.pam_known.specs.Answers.{name_of_path}
-use Rattle.pam_settings.specs.Settings.{SettingText}
+use Rattle.pam_facts.specs.known.Answers.{name_of_path}
+use Rattle.pam_facts.specs.settings.Settings.{SettingText}
 use Rattle.pam_tables.specs.Returns.{ReturnLine, codes_for}
 use Rattle.pam_changes.specs.Sides.{SideText, SidesText}
 

@@ -37,13 +37,13 @@ comes_sooner pairs pair = list_any (λ other. nat_lt pair.new other.new && nat_l
 abbrev pub shorter : List ℕ → List ℕ → List ℕ
 shorter one other = if nat_lt (length other) (length one) then other else one
 
--- the modules of the new stack whose pairs pass a test
-abbrev pub new_where : (MatchedPair → Bool) → List MatchedPair → List ℕ
-new_where test pairs = map (λ pair. pair.new) (filter test pairs)
+-- the modules whose pairs pass a test, in the order of these, by their numbers in the old stack
+abbrev pub old_where : (MatchedPair → Bool) → List MatchedPair → List ℕ
+old_where test pairs = map (λ pair. pair.old) (filter test pairs)
 
 -- THE MODULES THAT MOVED: those that come later than they did, or, if these are fewer, those that come sooner
 abbrev pub moved : List MatchedPair → List ℕ
-moved pairs = shorter (new_where (comes_later pairs) pairs) (new_where (comes_sooner pairs) pairs)
+moved pairs = shorter (old_where (comes_later pairs) pairs) (old_where (comes_sooner pairs) pairs)
 
 -- two matched modules are there, and differ by a test
 abbrev pub differ : (ModuleText → ModuleText → Bool) → Items → Items → MatchedPair → Bool
@@ -61,4 +61,4 @@ pub record AreModuleChanges (partners : List (Option ℕ)) (old new : Items) (ch
   pub added : changes.added.items ≡ added partners new
   pub moved : changes.moved.items ≡ moved (pairs_of partners new)
   pub arguments : changes.arguments.items ≡ filter (differ same_arguments old new) (pairs_of partners new)
-  pub controls : changes.controls.items ≡ new_where (differ same_controls old new) (pairs_of partners new)
+  pub controls : changes.controls.items ≡ old_where (differ same_controls old new) (pairs_of partners new)

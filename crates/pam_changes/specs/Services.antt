@@ -3,7 +3,7 @@ use Rattle.std.specs.Prelude.{ℕ, Bool, List, [], ◌∷◌, fold, map}
 use Rattle.std.specs.Char.{to_ascii_lowercase}
 use Rattle.std.specs.List.{list_any}
 use Rattle.std.specs.Str.{bytes_eq}
-use Rattle.pam_host.specs.Services.{each_once, or_other, services_in, with_name}
+use Rattle.pam_conf.specs.Services.{each_once, or_other, services_in, with_name}
 use Rattle.pam_changes.specs.Sides.{SideText, SidesText}
 use Rattle.pam_changes.specs.declared.services.ComparedService.{ComparedService}
 

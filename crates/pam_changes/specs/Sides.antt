@@ -3,7 +3,7 @@ use Rattle.std.specs.Prelude.{ℕ, List, Option, map}
 use Rattle.std.specs.Option.{option_map}
 use Rattle.pam_conf.specs.Files.{Folder}
 use Rattle.pam_facts.specs.Rows.{Row}
-use Rattle.pam_settings.specs.Settings.{SettingText, setting_view}
+use Rattle.pam_facts.specs.settings.Settings.{SettingText, setting_view}
 use Rattle.pam_tables.specs.Returns.{ReturnLine}
 use Rattle.pam_changes.specs.declared.sides.Side.{Side}
 use Rattle.pam_changes.specs.declared.sides.Sides.{Sides}

@@ -2,7 +2,7 @@
 
 ghost use Rattle.std.specs.Prelude.{◌≡◌, IfOk, filter, is_none};
 ghost use Rattle.pam_compare.specs.Matching.{partner_of};
-ghost use Rattle.pam_changes.specs.Modules.{AreModuleChanges, added as added_in, comes_later, comes_sooner, differ, moved as moved_in, new_where};
+ghost use Rattle.pam_changes.specs.Modules.{AreModuleChanges, added as added_in, comes_later, comes_sooner, differ, moved as moved_in, old_where};
 ghost use Rattle.pam_changes.specs.Modules.{pairs_of, removed as removed_in, same_arguments, same_controls};
 
 use pam_compare::{Matching, are_same_texts};
@@ -16,20 +16,20 @@ pub struct MatchedPair {
     pub new: usize,
 }
 
-/// How the modules of two stacks differ, by their numbers, each list in order. If all are empty, stacks that are not the same
-/// differ in their substacks, or in which modules are there.
+/// How the modules of two stacks differ, by their numbers: a module that the old stack has by its number there, also one that is
+/// matched. If all lists are empty, stacks that are not the same differ in their substacks, or in which modules are there.
 #[derive(Debug, Drop)]
 pub struct ModuleChanges {
-    /// Modules of the old stack that are not matched.
+    /// Modules of the old stack that are not matched, in order.
     pub removed: Vec<usize>,
-    /// Modules of the new stack that are not matched.
+    /// Modules of the new stack that are not matched, in order.
     pub added: Vec<usize>,
-    /// Matched modules of the new stack in another order than in the old one: those that come after a module which they came
-    /// before, or, if these are fewer, those that come before a module which they came after.
+    /// Matched modules that are in another order than in the old stack: those that come after a module which they came before, or,
+    /// if these are fewer, those that come before a module which they came after. They are in the order of the new stack.
     pub moved: Vec<usize>,
-    /// Matched modules with other arguments.
+    /// Matched modules with other arguments, in the order of the new stack.
     pub arguments: Vec<MatchedPair>,
-    /// Matched modules of the new stack with another control.
+    /// Matched modules with another control, in the order of the new stack.
     pub controls: Vec<usize>,
 }
 
@@ -106,24 +106,24 @@ fn comes_sooner(pairs: &[MatchedPair], pair: &MatchedPair) -> bool
 }
 
 fn later(alloc: Global, pairs: &[MatchedPair]) -> Result<Vec<usize>, AllocError>
-    ensures { IfOk result (λ moved. moved.items ≡ new_where (comes_later pairs.now) pairs.now) }
+    ensures { IfOk result (λ moved. moved.items ≡ old_where (comes_later pairs.now) pairs.now) }
 {
     let mut moved = Vec::new(alloc);
     for pair in pairs {
         if comes_later(pairs, pair) {
-            moved.push(pair.new)?;
+            moved.push(pair.old)?;
         }
     }
     Ok(moved)
 }
 
 fn sooner(alloc: Global, pairs: &[MatchedPair]) -> Result<Vec<usize>, AllocError>
-    ensures { IfOk result (λ moved. moved.items ≡ new_where (comes_sooner pairs.now) pairs.now) }
+    ensures { IfOk result (λ moved. moved.items ≡ old_where (comes_sooner pairs.now) pairs.now) }
 {
     let mut moved = Vec::new(alloc);
     for pair in pairs {
         if comes_sooner(pairs, pair) {
-            moved.push(pair.new)?;
+            moved.push(pair.old)?;
         }
     }
     Ok(moved)
@@ -188,12 +188,12 @@ fn with_other_controls(
     new: &Stack,
     pairs: &[MatchedPair],
 ) -> Result<Vec<usize>, AllocError>
-    ensures { IfOk result (λ changed. changed.items ≡ new_where (differ same_controls old.now new.now) pairs.now) }
+    ensures { IfOk result (λ changed. changed.items ≡ old_where (differ same_controls old.now new.now) pairs.now) }
 {
     let mut changed = Vec::new(alloc);
     for pair in pairs {
         if have_other_controls(old, new, pair) {
-            changed.push(pair.new)?;
+            changed.push(pair.old)?;
         }
     }
     Ok(changed)
@@ -216,7 +216,7 @@ impl PairChanges {
     ) -> Result<PairChanges, AllocError>
         ensures moved { IfOk result (λ c. c.moved.items ≡ moved_in pairs.now) }
         ensures arguments { IfOk result (λ c. c.arguments.items ≡ filter (differ same_arguments old.now new.now) pairs.now) }
-        ensures controls { IfOk result (λ c. c.controls.items ≡ new_where (differ same_controls old.now new.now) pairs.now) }
+        ensures controls { IfOk result (λ c. c.controls.items ≡ old_where (differ same_controls old.now new.now) pairs.now) }
     {
         let moved = moved(alloc, pairs)?;
         let arguments = with_other_arguments(alloc, old, new, pairs)?;
@@ -237,7 +237,7 @@ impl PairChanges {
     ) -> Result<PairChanges, AllocError>
         ensures moved { IfOk result (λ c. c.moved.items ≡ moved_in (pairs_of matching.now new.now)) }
         ensures arguments { IfOk result (λ c. c.arguments.items ≡ filter (differ same_arguments old.now new.now) (pairs_of matching.now new.now)) }
-        ensures controls { IfOk result (λ c. c.controls.items ≡ new_where (differ same_controls old.now new.now) (pairs_of matching.now new.now)) }
+        ensures controls { IfOk result (λ c. c.controls.items ≡ old_where (differ same_controls old.now new.now) (pairs_of matching.now new.now)) }
     {
         let pairs = matched_pairs(alloc, matching, new)?;
         PairChanges::of(alloc, old, new, &pairs)

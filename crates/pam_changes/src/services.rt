@@ -1,13 +1,12 @@
 //! The services that are compared.
 
 ghost use Rattle.std.specs.Prelude.{◌≡◌, IfOk, fold, map};
-ghost use Rattle.pam_host.specs.Services.{or_other, services_in, with_name};
+ghost use Rattle.pam_conf.specs.Services.{or_other, services_in, with_name};
 ghost use Rattle.pam_changes.specs.Services.{compared_services, names_among, presence_in, service_text};
 ghost use Rattle.pam_changes.specs.Sides.{sides_view};
 
 use crate::sides::Sides;
-use pam_conf::RuleFiles;
-use pam_host::{NameList, named_services, services_in};
+use pam_conf::{NameList, RuleFiles, named_services, services_in};
 use pam_text::Texts;
 use std::alloc::{AllocError, Global};
 

@@ -2,7 +2,7 @@
 
 use pam_conf::Files;
 use pam_facts::Facts;
-use pam_settings::Setting;
+use pam_facts::settings::Setting;
 use pam_tables::ReturnTable;
 use pam_text::Texts;
 

@@ -18,8 +18,7 @@ use crate::same::are_same;
 use crate::sides::{Side, Sides};
 use indexmap::IndexMap;
 use pam_conf::laws::stack_is_sound_survey;
-use pam_conf::{ConfError, FaultKind, Kind, RuleFiles, Stack, Survey, resolve};
-use pam_host::is_sound;
+use pam_conf::{ConfError, FaultKind, Kind, RuleFiles, Stack, Survey, is_sound, resolve};
 use std::alloc::{AllocError, Global};
 
 /// What changes in the stack of a service for a kind.

@@ -1,6 +1,6 @@
 -- The files of candidates.
 use Rattle.std.proofs.Common.{◌≡◌, ◌∙◌, ◌++◌, ◌||◌, ◌==◌, ◌+◌, ◌<◌, Bool, true, false, List, [], ◌∷◌, ℕ, add-one, append-nil, ap, arith, get_or}
-use Rattle.std.proofs.Common.{length, map, not, refl, subst, sym, take, if◌then◌else◌}
+use Rattle.std.proofs.Common.{ap₂, inl, inr, length, map, not, refl, subst, sym, take, if◌then◌else◌}
 use Rattle.std.proofs.Math.Seq.{take-suc}
 use Rattle.std.proofs.lemmas.Bool.{eqb-true}
 use Rattle.std.proofs.lemmas.List.{map-append}
@@ -8,8 +8,10 @@ use Rattle.std.proofs.lemmas.List.Elements.{filter-append}
 use Rattle.std.proofs.lemmas.Slice.Eq.{bytes_eq-Decides}
 use Rattle.std.specs.List.{filter, list_any}
 use Rattle.std.specs.Str.{bytes_eq}
-use Rattle.pam_cli.specs.Sources.{IsOfCandidates, firsts_of, is_given}
-use Rattle.pam_cli.specs.inner.Sources.{AddsCandidate, AddsFile}
+use Rattle.pam_conf.specs.Files.{Named}
+use Rattle.pam_cli.specs.Sources.{AreFilesOf, IsOfCandidates, firsts_of, is_given}
+use Rattle.pam_cli.specs.System.{Told}
+use Rattle.pam_cli.specs.inner.Sources.{AddsCandidate}
 use Rattle.pam_cli.specs.declared.reading.sources.SourceFiles.{SourceFiles}
 use Rattle.pam_cli.proofs.Added.{among_names}
 
@@ -66,58 +68,62 @@ firsts_with (d ∷ ds) c =
     ∙ ap (λ l. d ∷ l) (filter-append (differs d) (firsts_of ds) (unless (has c.0 ds) c))
     ∙ ap (λ l. d ∷ (filter (differs d) (firsts_of ds) ++ l)) (kept c d (has c.0 ds))
 
-map_unless : {A B : Type 0} (f : A → B) (t : Bool) (x : A) → map f (unless t x) ≡ unless t (f x)
-map_unless f true x = refl
-map_unless f false x = refl
+-- files have the names of their candidates
+names_alike : (told : Told) (cs : List Pair) (files : List Named) → AreFilesOf told cs files → map (λ c. c.0) cs ≡ map (λ f. f.0) files
+names_alike told [] [] h = refl
+names_alike told (c ∷ cs) (f ∷ fs) h = ap₂ (λ n ns. n ∷ ns) (sym h.0) (names_alike told cs fs h.2)
+names_alike told [] (f ∷ fs) h = absurd h
+names_alike told (c ∷ cs) [] h = absurd h
 
-module _ (name file : List ℕ) (old : SourceFiles) where
-  pub none_added : is_given name old.files.entries ≡ true → AddsCandidate (name, file) old old
-  none_added given = record {
-    form = refl;
-    entries = sym (append-nil (map (λ f. f.0) old.files.entries))
-        ∙ ap (λ t. map (λ f. f.0) old.files.entries ++ unless t name) (sym given);
-    paths = sym (append-nil old.paths) ∙ ap (λ t. old.paths ++ unless t file) (sym given);
-  }
+-- the file of one more candidate
+files_with : (told : Told) (cs : List Pair) (files : List Named) (c : Pair) (bytes : List ℕ) → AreFilesOf told cs files → told.file c.1 bytes
+    → AreFilesOf told (cs ++ c ∷ []) (files ++ (c.0, bytes) ∷ [])
+files_with told [] [] c bytes h read = (refl, read, tt)
+files_with told (d ∷ ds) (f ∷ fs) c bytes h read = (h.0, h.1, files_with told ds fs c bytes h.2 read)
+files_with told [] (f ∷ fs) c bytes h read = absurd h
+files_with told (d ∷ ds) [] c bytes h read = absurd h
 
-  pub one_added : (bytes : List ℕ) (new : SourceFiles) → is_given name old.files.entries ≡ false → AddsFile name bytes file old new
-      → AddsCandidate (name, file) old new
-  one_added bytes new lacked added = record {
-    form = ap (λ f. f.form) added.files;
-    entries = ap (λ f. map (λ e. e.0) f.entries) added.files
-        ∙ map-append (λ e. e.0) old.files.entries ((name, bytes) ∷ [])
-        ∙ ap (λ t. map (λ f. f.0) old.files.entries ++ unless t name) (sym lacked);
-    paths = added.paths ∙ ap (λ t. old.paths ++ unless t file) (sym lacked);
-  }
+module _ (told : Told) (cs : List Pair) (c : Pair) (folder : List ℕ) (old new : SourceFiles)
+    (before : IsOfCandidates told cs folder old.files old.paths) where
+  abbrev found_as : is_given c.0 old.files.entries ≡ has c.0 cs
+  found_as =
+      sym (among_names (λ (d : Pair). d.0) c.0 (firsts_of cs) old.files.entries (names_alike told (firsts_of cs) old.files.entries before.files))
+      ∙ has_firsts c.0 cs
 
--- one more candidate
-one_more : (cs : List Pair) (c : Pair) (folder : List ℕ) (old new : SourceFiles) → IsOfCandidates cs folder old.files old.paths
-    → AddsCandidate c old new → IsOfCandidates (cs ++ c ∷ []) folder new.files new.paths
-one_more cs c folder old new before added =
-    let here : is_given c.0 old.files.entries ≡ has c.0 cs =
-    sym (among_names (λ (d : Pair). d.0) c.0 (firsts_of cs) old.files.entries (sym before.names)) ∙ has_firsts c.0 cs in
-    record {
-      form = added.form ∙ before.form;
-      names = added.entries ∙ ap (λ ns. ns ++ unless (is_given c.0 old.files.entries) c.0) before.names
-          ∙ ap (λ t. map (λ d. d.0) (firsts_of cs) ++ unless t c.0) here
-          ∙ ap (λ l. map (λ d. d.0) (firsts_of cs) ++ l) (sym (map_unless (λ (d : Pair). d.0) (has c.0 cs) c))
-          ∙ sym (map-append (λ d. d.0) (firsts_of cs) (unless (has c.0 cs) c))
-          ∙ sym (ap (map (λ d. d.0)) (firsts_with cs c));
-      paths = added.paths ∙ ap (λ ps. ps ++ unless (is_given c.0 old.files.entries) c.1) before.paths
-          ∙ ap (λ t. folder ∷ (map (λ d. d.1) (firsts_of cs) ++ unless t c.1)) here
-          ∙ ap (λ l. folder ∷ (map (λ d. d.1) (firsts_of cs) ++ l)) (sym (map_unless (λ (d : Pair). d.1) (has c.0 cs) c))
-          ∙ ap (λ l. folder ∷ l) (sym (map-append (λ d. d.1) (firsts_of cs) (unless (has c.0 cs) c)))
-          ∙ sym (ap (λ l. folder ∷ map (λ d. d.1) l) (firsts_with cs c));
-    }
+  -- one more candidate
+  one_more : AddsCandidate told c old new → IsOfCandidates told (cs ++ c ∷ []) folder new.files new.paths
+  one_more (inl given) =
+      let firsts : firsts_of (cs ++ c ∷ []) ≡ firsts_of cs =
+      firsts_with cs c ∙ ap (λ t. firsts_of cs ++ unless t c) (sym found_as ∙ given.0) ∙ append-nil (firsts_of cs) in
+      subst (λ (found : SourceFiles). IsOfCandidates told (cs ++ c ∷ []) folder found.files found.paths) (sym given.1) (record {
+        form = before.form;
+        files = subst (λ (l : List Pair). AreFilesOf told l old.files.entries) (sym firsts) before.files;
+        paths = before.paths ∙ ap (λ (l : List Pair). folder ∷ map (λ d. d.1) l) (sym firsts);
+      })
+  one_more (inr reads) =
+      let bytes = reads.1.0 in
+      let added = reads.1.2 in
+      let firsts : firsts_of (cs ++ c ∷ []) ≡ firsts_of cs ++ c ∷ [] =
+      firsts_with cs c ∙ ap (λ t. firsts_of cs ++ unless t c) (sym found_as ∙ reads.0) in
+      let more = files_with told (firsts_of cs) old.files.entries c bytes before.files reads.1.1 in
+      record {
+        form = ap (λ f. f.form) added.files ∙ before.form;
+        files = subst (λ (es : List Named). AreFilesOf told (firsts_of (cs ++ c ∷ [])) es) (sym (ap (λ f. f.entries) added.files))
+            (subst (λ (l : List Pair). AreFilesOf told l (old.files.entries ++ (c.0, bytes) ∷ [])) (sym firsts) more);
+        paths = added.paths ∙ ap (λ ps. ps ++ c.1 ∷ []) before.paths
+            ∙ ap (λ l. folder ∷ l) (sym (map-append (λ (d : Pair). d.1) (firsts_of cs) (c ∷ [])))
+            ∙ sym (ap (λ (l : List Pair). folder ∷ map (λ d. d.1) l) firsts);
+      }
 
 -- the next candidate of a list
-pub next_one : {A : Type 0} (view : A → Pair) (cs : List A) (i : ℕ) (d : A) → i < length cs → (folder : List ℕ) (old new : SourceFiles)
-    → IsOfCandidates (map view (take i cs)) folder old.files old.paths → AddsCandidate (view (get_or cs i d)) old new
-    → IsOfCandidates (map view (take (i + 1) cs)) folder new.files new.paths
-next_one view cs i d low folder old new before added =
+pub next_one : (told : Told) {A : Type 0} (view : A → Pair) (cs : List A) (i : ℕ) (d : A) → i < length cs → (folder : List ℕ) (old new : SourceFiles)
+    → IsOfCandidates told (map view (take i cs)) folder old.files old.paths → AddsCandidate told (view (get_or cs i d)) old new
+    → IsOfCandidates told (map view (take (i + 1) cs)) folder new.files new.paths
+next_one told view cs i d low folder old new before added =
     let same : map view (take (i + 1) cs) ≡ map view (take i cs) ++ view (get_or cs i d) ∷ [] =
     rw add-one (ap (map view) (take-suc cs i d low) ∙ map-append view (take i cs) (get_or cs i d ∷ [])) in
-    subst (λ (l : List Pair). IsOfCandidates l folder new.files new.paths) (sym same)
-    (one_more (map view (take i cs)) (view (get_or cs i d)) folder old new before added)
+    subst (λ (l : List Pair). IsOfCandidates told l folder new.files new.paths) (sym same)
+    (one_more told (map view (take i cs)) (view (get_or cs i d)) folder old new before added)
 
 pub none_given : {A : Type 0} (view : A → Pair) (cs : List A) → (length cs == 0) ≡ true → map view cs ≡ []
 none_given view [] e = refl

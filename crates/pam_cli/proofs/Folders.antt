@@ -3,7 +3,7 @@ use Rattle.std.proofs.Common.{◌≡◌, ℕ, ◌+◌, ◌<◌, ◌≤◌, Bool,
 use Rattle.std.proofs.Common.{subst, suc, sym, take, zero}
 use Rattle.pam_cli.specs.Sources.{IsUnread}
 use Rattle.pam_cli.specs.inner.Reading.{known_with}
-use Rattle.pam_paths.specs.Classes.{Member}
+use Rattle.pam_text.specs.Members.{Member}
 use Rattle.pam_report.specs.declared.inputs.InputError.{InputError}
 use Rattle.pam_report.specs.declared.inputs.InputError.TheVariants.{Read, Memory}
 

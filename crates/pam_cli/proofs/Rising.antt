@@ -26,7 +26,7 @@ module _ {X : Type 0} (P : X → Type 0) where
   one_inside [] y ys h = h.0
   one_inside (x ∷ xs) y ys h = one_inside xs y ys h.1
 
-  all_with : (xs : List X) (y : X) → AllByRecursion P xs → P y → AllByRecursion P (xs ++ y ∷ [])
+  pub all_with : (xs : List X) (y : X) → AllByRecursion P xs → P y → AllByRecursion P (xs ++ y ∷ [])
   all_with [] y h p = (p, tt)
   all_with (x ∷ xs) y h p = (h.0, all_with xs y h.1 p)
 

@@ -1,4 +1,5 @@
 pub mod Reading
 pub mod Run
 pub mod Sources
+pub mod System
 pub mod inner

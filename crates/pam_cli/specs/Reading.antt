@@ -1,11 +1,12 @@
 -- What is read for a task: the inputs that fit it, or the input that cannot be read.
-use Rattle.std.specs.Prelude.{◌≡◌, ◌⊎◌, ◌&&◌, ⊤, Bool, false, true, ℕ, List, [], ◌∷◌, MatchOption, Option, Some, None, Result, Ok, Err, codes, is_some, map}
+use Rattle.std.specs.Prelude.{◌≡◌, ◌⊎◌, ◌&&◌, ⊤, Bool, false, true, ℕ, List, [], ◌∷◌, MatchOption, Option, Some, None, Result, Ok, Err, Vec, codes, is_some, map}
 use Rattle.std.specs.Borrow.{Bor}
 use Rattle.std.specs.Option.{option_copied}
-use Rattle.std.specs.Path.{path_join}
+use Rattle.std.specs.Global.{Global}
 use Rattle.clap.specs.Words.{Text}
-use Rattle.pam_paths.specs.Classes.{Member}
+use Rattle.pam_text.specs.Members.{Member}
 use Rattle.pam_report.specs.Inputs.{fits_task, there_given}
+use Rattle.pam_report.specs.declared.inputs.CheckInputs.{CheckInputs}
 use Rattle.pam_report.specs.declared.inputs.SideInputs.{SideInputs}
 use Rattle.pam_report.specs.declared.inputs.InputError.{InputError}
 use Rattle.pam_report.specs.declared.inputs.Inputs.{Inputs}
@@ -21,37 +22,62 @@ use Rattle.pam_words.specs.declared.wanted.Task.{Task}
 use Rattle.pam_words.specs.declared.wanted.Task.TheVariants.{Check, Compare, Show, Decide, Access, Time, Paths, Outcomes, Graph}
 use Rattle.pam_words.specs.declared.wanted.CheckFiles.{CheckFiles}
 use Rattle.pam_cli.specs.Sources.{IsFrom, IsInSource, IsRead, IsUnread}
+use Rattle.pam_cli.specs.System.{PlaceText, Told, shown}
+use Rattle.pam_cli.specs.System as system
 
 -- ---- what is read
 
--- a configuration is read from its source, for `check` with its paths
-abbrev pub HasFiles : List (Text × Text) → ConfSource → Inputs → Type 0
-HasFiles candidates source (inputs.Host files paths given) = IsRead candidates source files paths
-HasFiles candidates source (inputs.Stack files) = IsFrom candidates source files
-HasFiles candidates source (inputs.Paths files given) = IsFrom candidates source files
-HasFiles candidates source given = ⊤
+-- a configuration is read from its source, for `check` with its paths and with which of its files only the second folder has
+abbrev pub HasFiles : Told → List (Text × Text) → ConfSource → Inputs → Type 0
+HasFiles told candidates source (inputs.Host files paths given) = IsRead told candidates source files paths given.vendor_start
+HasFiles told candidates source (inputs.Stack files) = IsFrom told candidates source files
+HasFiles told candidates source (inputs.Paths files given) = IsFrom told candidates source files
+HasFiles told candidates source given = ⊤
 
--- a table: that of the name, or else that of the root at this path, if it is there
-abbrev pub IsInRoot : ConfSource → Text → Text → Type 0
-IsInRoot (Root root) own path = path ≡ path_join root.now own
-IsInRoot source own path = ⊥
+-- the bytes of a file, if one is named
+abbrev pub IsFile : Told → Option Text → Option (Vec ℕ Global) → Type 0
+IsFile told (Some name) given = MatchOption given ⊥ (λ bytes. told.file name bytes.items)
+IsFile told None given = given ≡ None
 
--- the first is whether the table of the root is read
-abbrev pub IsTable : Bool → ConfSource → Text → Option Text → Option TableFile → Type 0
-IsTable reads source own (Some name) table = MatchOption table ⊥ (λ t. t.path.items ≡ name)
-IsTable reads source own None table = MatchOption table ⊤ (λ t. (reads ≡ true) × IsInRoot source own t.path.items)
+-- a table that is named
+abbrev pub IsNamedTable : Told → Text → TableFile → Type 0
+IsNamedTable told name table = (table.path.items ≡ name) × told.file name table.bytes.items
+
+-- the table of a system, if it is there
+abbrev pub IsTableAt : Told → PlaceText → Option TableFile → Type 0
+IsTableAt told place None = told.held place system.nothing
+IsTableAt told place (Some table) = (table.path.items ≡ shown place) × told.held place (system.bytes table.bytes.items)
+
+-- the table of the source's own at this path, if tables are read there
+abbrev pub IsOwnTable : Told → Bool → ConfSource → Text → Option TableFile → Type 0
+IsOwnTable told false source path table = table ≡ None
+IsOwnTable told true (Root root) path table = IsTableAt told (system.below root.now path) table
+IsOwnTable told true source path table = table ≡ None
+
+-- a table: that of the name, or else that of the root at this path. The first is whether the table of the root is read
+abbrev pub IsTable : Told → Bool → ConfSource → Text → Option Text → Option TableFile → Type 0
+IsTable told reads source own (Some name) table = MatchOption table ⊥ (IsNamedTable told name)
+IsTable told reads source own None table = IsOwnTable told reads source own table
 
 -- THE TABLES: those that are named, and else those of the root that are there. The table of the root is read where a login is looked
 -- up, the time table where its moment is looked up too
-pub record AreTables (by_login by_moment : Bool) (source : ConfSource) (named : TableNames) (tables : TableFiles) : Type 0 where
-  pub groups : IsTable by_login source (codes "etc/group") (option_copied named.groups) tables.groups
-  pub access : IsTable by_login source (codes "etc/security/access.conf") (option_copied named.access) tables.access
-  pub time : IsTable by_moment source (codes "etc/security/time.conf") (option_copied named.time) tables.time
+pub record AreTables (told : Told) (by_login by_moment : Bool) (source : ConfSource) (named : TableNames) (tables : TableFiles) : Type 0 where
+  pub groups : IsTable told by_login source (codes "etc/group") (option_copied named.groups) tables.groups
+  pub access : IsTable told by_login source (codes "etc/security/access.conf") (option_copied named.access) tables.access
+  pub time : IsTable told by_moment source (codes "etc/security/time.conf") (option_copied named.time) tables.time
 
 -- `check` reads them all
-abbrev pub HasTables : ConfSource → CheckFiles → Inputs → Type 0
-HasTables source named (inputs.Host files paths given) = AreTables true true source named.tables given.tables
-HasTables source named given = ⊤
+abbrev pub HasTables : Told → ConfSource → CheckFiles → Inputs → Type 0
+HasTables told source named (inputs.Host files paths given) = AreTables told true true source named.tables given.tables
+HasTables told source named given = ⊤
+
+-- the facts file and the accept file of `check`
+abbrev pub AreOthers : Told → CheckFiles → CheckInputs → Type 0
+AreOthers told named given = IsFile told (option_copied named.facts) given.facts × IsFile told (option_copied named.accept) given.accept
+
+abbrev pub HasOthers : Told → CheckFiles → Inputs → Type 0
+HasOthers told named (inputs.Host files paths given) = AreOthers told named given
+HasOthers told named given = ⊤
 
 -- a user is given
 abbrev pub is_user : Text → Bool
@@ -62,12 +88,14 @@ abbrev pub has_user : KnowledgeSource → Bool
 has_user named = is_user named.login.user.now
 
 -- `paths`, `outcomes` and `graph` look up a login if its user is given, and its moment if that is given too
-abbrev pub AreKnownTables : ConfSource → KnowledgeSource → TableFiles → Type 0
-AreKnownTables source named tables = AreTables (has_user named) (has_user named && is_some named.moment) source named.tables tables
+abbrev pub AreKnownTables : Told → ConfSource → KnowledgeSource → TableFiles → Type 0
+AreKnownTables told source named tables =
+    AreTables told (has_user named) (has_user named && is_some named.moment) source named.tables tables
 
-abbrev pub HasKnownTables : ConfSource → KnowledgeSource → Inputs → Type 0
-HasKnownTables source named (inputs.Paths files given) = AreKnownTables source named given.tables
-HasKnownTables source named given = ⊤
+abbrev pub HasKnownTables : Told → ConfSource → KnowledgeSource → Inputs → Type 0
+HasKnownTables told source named (inputs.Paths files given) =
+    AreKnownTables told source named given.tables × IsFile told (option_copied named.returns) given.returns
+HasKnownTables told source named given = ⊤
 
 -- no folder of modules is named: it is not known which modules are there, unless the source is a system, which may have such folders
 abbrev pub HasOwnModules : ConfSource → Option (List Text) → Type 0
@@ -80,33 +108,48 @@ HasModules source [] there = HasOwnModules source there
 HasModules source (folder ∷ folders) there = is_some there ≡ true
 
 -- a side of a comparison is read from its source, and its modules are known by that source and the folders that are named
-abbrev pub IsSide : ConfSource → CompareFiles → SideInputs → Type 0
-IsSide source named side = IsFrom [] source side.files × HasModules source named.modules.items side.there
+abbrev pub IsSide : Told → ConfSource → CompareFiles → SideInputs → Type 0
+IsSide told source named side = IsFrom told [] source side.files × HasModules source named.modules.items side.there
 
--- the old configuration is read from the first source, and the new one from the second
-abbrev pub HasSides : ConfSource → ConfSource → CompareFiles → Inputs → Type 0
-HasSides old new named (inputs.Sides old_side new_side facts returns) = IsSide old named old_side × IsSide new named new_side
-HasSides old new named given = ⊤
+-- the old configuration is read from the first source, and the new one from the second, beside the facts file and the returns file
+abbrev pub HasSides : Told → ConfSource → ConfSource → CompareFiles → Inputs → Type 0
+HasSides told old new named (inputs.Sides old_side new_side facts returns) =
+    IsSide told old named old_side × IsSide told new named new_side
+    × IsFile told (option_copied named.facts) facts × IsFile told (option_copied named.returns) returns
+HasSides told old new named given = ⊤
 
--- a configuration, the tables that give the answers of its modules, and whether it is known which modules are there
-abbrev pub HasKnowledge : List (Text × Text) → ConfSource → KnowledgeSource → Inputs → Type 0
-HasKnowledge candidates source named given =
-    HasFiles candidates source given × HasKnownTables source named given × HasModules source named.modules.items (there_given given)
+-- a configuration, the tables and the returns file that give the answers of its modules, and whether it is known which modules are there
+abbrev pub HasKnowledge : Told → List (Text × Text) → ConfSource → KnowledgeSource → Inputs → Type 0
+HasKnowledge told candidates source named given =
+    HasFiles told candidates source given × HasKnownTables told source named given × HasModules source named.modules.items (there_given given)
 
-abbrev pub HasSource : List (Text × Text) → Task → Inputs → Type 0
-HasSource candidates (Check source services fail_on named) given =
-    HasFiles candidates source given × HasTables source named given × HasModules source named.modules.items (there_given given)
-HasSource candidates (Compare old new service kind named) given = HasSides old new named given
-HasSource candidates (Show source kind release) given = HasFiles candidates source given
-HasSource candidates (Decide source kind answered) given = HasFiles candidates source given
-HasSource candidates (Paths source kind limit part filter knowledge) given = HasKnowledge candidates source knowledge given
-HasSource candidates (Outcomes source kind knowledge) given = HasKnowledge candidates source knowledge given
-HasSource candidates (Graph source kind format knowledge) given = HasKnowledge candidates source knowledge given
-HasSource candidates task given = ⊤
+-- the table of `access` and its group file
+abbrev pub IsAccess : Told → Text → Option Text → Inputs → Type 0
+IsAccess told table groups (inputs.Access bytes group) = told.file table bytes.items × IsFile told groups group
+IsAccess told table groups given = ⊤
+
+-- the table of `time`
+abbrev pub IsTime : Told → Text → Inputs → Type 0
+IsTime told table (inputs.Time bytes) = told.file table bytes.items
+IsTime told table given = ⊤
+
+abbrev pub HasSource : Told → List (Text × Text) → Task → Inputs → Type 0
+HasSource told candidates (Check source services fail_on named) given =
+    HasFiles told candidates source given × HasTables told source named given × HasOthers told named given
+    × HasModules source named.modules.items (there_given given)
+HasSource told candidates (Compare old new service kind named) given = HasSides told old new named given
+HasSource told candidates (Show source kind release) given = HasFiles told candidates source given
+HasSource told candidates (Decide source kind answered) given = HasFiles told candidates source given
+HasSource told candidates (Access table groups login arguments) given = IsAccess told table.now (option_copied groups) given
+HasSource told candidates (Time table login moment) given = IsTime told table.now given
+HasSource told candidates (Paths source kind limit part filter knowledge) given = HasKnowledge told candidates source knowledge given
+HasSource told candidates (Outcomes source kind knowledge) given = HasKnowledge told candidates source knowledge given
+HasSource told candidates (Graph source kind format knowledge) given = HasKnowledge told candidates source knowledge given
+HasSource told candidates task given = ⊤
 
 -- THE INPUTS of a task with these candidates: those of exactly the files that are named
-abbrev pub AreInputs : List (Text × Text) → Task → Inputs → Type 0
-AreInputs candidates task given = (fits_task task given ≡ true) × HasSource candidates task given
+abbrev pub AreInputs : Told → List (Text × Text) → Task → Inputs → Type 0
+AreInputs told candidates task given = (fits_task task given ≡ true) × HasSource told candidates task given
 
 -- ---- what cannot be read
 
@@ -151,6 +194,6 @@ IsOfTask (Graph source kind format knowledge) name = IsOfKnowledge source knowle
 IsOfTask task name = ⊥
 
 -- THE INPUTS of a task, or why there are none
-abbrev pub IsReading : List (Text × Text) → Task → Result Inputs InputError → Type 0
-IsReading candidates task (Ok given) = AreInputs candidates task given
-IsReading candidates task (Err error) = IsUnread (IsOfTask task) error
+abbrev pub IsReading : Told → List (Text × Text) → Task → Result Inputs InputError → Type 0
+IsReading told candidates task (Ok given) = AreInputs told candidates task given
+IsReading told candidates task (Err error) = IsUnread (IsOfTask task) error

@@ -2,7 +2,7 @@
 use Rattle.std.specs.Prelude.{◌≡◌, ◌⊎◌, true, ℕ, List, Option, Result, Ok, Err, MatchOption, map}
 use Rattle.clap.specs.Words.{fault_of, subcommand_of, takes}
 use Rattle.pam_codes.specs.Out.{Out}
-use Rattle.pam_print.specs.Answer.{Answers}
+use Rattle.pam_render.specs.text.Answer.{Answers}
 use Rattle.pam_report.specs.Fault.{status_of_fault, status_of_input, status_of_usage}
 use Rattle.pam_report.specs.Reply.{status_number}
 use Rattle.pam_report.specs.declared.fault.Fault.{Fault}
@@ -17,6 +17,7 @@ use Rattle.pam_words.specs.declared.wanted.Request.{Request}
 use Rattle.pam_words.specs.declared.wanted.Usage.{Usage}
 use Rattle.pam_words.specs.declared.wanted.Usage.TheVariants as usage
 use Rattle.pam_cli.specs.Reading.{IsReading}
+use Rattle.pam_cli.specs.System.{Told}
 
 -- the words are this request, or are refused: what `request` of pam_words ensures
 pub record Asks (words : List (List ℕ)) (asked : Result Request Usage) : Type 0 where
@@ -39,7 +40,7 @@ module _ {W : Type 0} (contents : W → Option (List ℕ)) (old new : Out W) (st
   abbrev pub EndsAnswered : Request → Inputs → Type 0
   EndsAnswered request inputs =
       (answered : Result Status Fault)
-      × Answers contents old new answered request.output request.service.now request.task inputs
+      × Answers contents old new answered request.output request.service.now (map candidate_view request.candidates.items) request.task inputs
       × (status ≡ status_of_answer answered)
 
   -- the answer, or why the inputs cannot be read
@@ -47,13 +48,17 @@ module _ {W : Type 0} (contents : W → Option (List ℕ)) (old new : Out W) (st
   EndsRead request (Ok inputs) = EndsAnswered request inputs
   EndsRead request (Err error) = (new ≡ old) × (status ≡ status_of_input error)
 
-  -- some inputs of the request are read and answered, or one cannot be read
+module _ (told : Told) {W : Type 0} (contents : W → Option (List ℕ)) (old new : Out W) (status : ℕ) where
+  -- what the system answers are inputs of the request, which are answered, or one cannot be read
   abbrev pub EndsRequest : Request → Type 0
-  EndsRequest request = (given : Result Inputs InputError) × IsReading (map candidate_view request.candidates.items) request.task given × EndsRead request given
+  EndsRequest request =
+      (given : Result Inputs InputError)
+      × IsReading told (map candidate_view request.candidates.items) request.task given
+      × EndsRead contents old new status request given
 
   abbrev pub EndsAsked : Result Request Usage → Type 0
   EndsAsked (Ok request) = EndsRequest request
-  EndsAsked (Err refusal) = EndsRefused refusal
+  EndsAsked (Err refusal) = EndsRefused contents old new status refusal
 
   -- THE RUN: the words are refused, or their request is answered
   unfoldable pub Runs : List (List ℕ) → Type 0

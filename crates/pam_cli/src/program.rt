@@ -6,33 +6,34 @@ ghost use Rattle.pam_report.specs.declared.fault.Fault.TheVariants as faults;
 ghost use Rattle.pam_cli.specs.Run.{EndsAnswered, EndsRefused, EndsRequest, Runs};
 
 use crate::reading::inputs_of;
+use crate::system::System;
 use pam_codes::Out;
-use pam_conf::{Files as ConfFiles, Form};
-use pam_print::answer;
+use pam_conf::{Files, Form};
+use pam_render::sentences::put_name;
+use pam_render::text::answer;
 use pam_report::{
-    Fault, InputError, Inputs, fault_status, fault_text, input_status, input_text, usage_status,
-    usage_text,
+    Fault, InputError, Inputs, fault_status, fault_text, input_status, input_text, refusal_text,
+    usage_status, usage_text,
 };
 use pam_words::{Request, Usage, request};
 use std::alloc::{AllocError, Global};
 use std::io::Write;
-use std::rt::Files;
 
 /// Runs the program with these words, the first of which is its name, and returns the exit status. Failed writes to
 /// `err` are ignored.
 #[tactic(auto, unfolding(crate::specs::Run::Runs))]
-pub fn run<R: Files + AllocGlobal + Clone + Drop, W: Write, V: Write>(
-    rt: &R,
+pub fn run<S: System, W: Write, V: Write>(
+    system: &S,
     alloc: Global,
     words: &[String],
     out: &mut Out<W>,
     err: &mut Out<V>,
 ) -> u8
-    ensures run { Runs W.contents out.old out.new result (map string_bytes words.now) }
+    ensures run { Runs (S.told system.now) W.contents out.old out.new result (map string_bytes words.now) }
     ensures status { result ≤ 6 }
 {
     match request(alloc, words) {
-        Ok(request) => answer_request(rt, alloc, &request, out, err),
+        Ok(request) => answer_request(system, alloc, &request, out, err),
         Err(usage) => help_or_refuse(alloc, &usage, out, err),
     }
 }
@@ -73,21 +74,21 @@ pub fn refuse_without_memory<V: Write>(alloc: Global, err: &mut Out<V>) -> u8
     ensures fault { result ≡ status_of_fault faults.Memory }
     ensures status { result ≤ 6 }
 {
-    refuse_by(alloc, &Fault::Memory, None, err)
+    refuse_by(alloc, &Fault::Memory, err)
 }
 
 /// Reads the files that a request names, and answers it.
-fn answer_request<R: Files + AllocGlobal + Clone + Drop, W: Write, V: Write>(
-    rt: &R,
+fn answer_request<S: System, W: Write, V: Write>(
+    system: &S,
     alloc: Global,
     request: &Request<'_>,
     out: &mut Out<W>,
     err: &mut Out<V>,
 ) -> u8
-    ensures run { EndsRequest W.contents out.old out.new result request.now }
+    ensures run { EndsRequest (S.told system.now) W.contents out.old out.new result request.now }
     ensures status { result ≤ 6 }
 {
-    match inputs_of(rt, alloc, request) {
+    match inputs_of(system, alloc, request) {
         Ok(inputs) => {
             let status = report(alloc, request, &inputs, out, err);
             // A call, since to prove the drop of each variant in place takes half a minute.
@@ -119,7 +120,14 @@ fn report<W: Write, V: Write>(
 {
     match answer(alloc, request, inputs, out) {
         Ok(status) => status.number(),
-        Err(fault) => refuse_by(alloc, &fault, inputs.files(), err),
+        Err(fault) => {
+            let line = refusal_text(alloc, &fault, request, inputs);
+            match fault {
+                Fault::NoSuchService | Fault::UnusedCandidate => say_names(line, err),
+                _ => say(line, err),
+            }
+            fault_status(&fault)
+        }
     }
 }
 
@@ -138,25 +146,17 @@ fn help<W: Write, V: Write>(
     };
     match written {
         Ok(()) => 0,
-        Err(_) => refuse_by(alloc, &Fault::Device, None, err),
+        Err(_) => refuse_by(alloc, &Fault::Device, err),
     }
 }
 
-/// Reports a fault on standard error, and returns its exit status. A fault of the configuration has its place in `files`.
-fn refuse_by<V: Write>(
-    alloc: Global,
-    fault: &Fault,
-    files: Option<&ConfFiles>,
-    err: &mut Out<V>,
-) -> u8
+/// Reports a fault without a place on standard error, and returns its exit status.
+fn refuse_by<V: Write>(alloc: Global, fault: &Fault, err: &mut Out<V>) -> u8
     ensures fault { result ≡ status_of_fault fault.now }
     ensures status { result ≤ 6 }
 {
-    let line = match files {
-        Some(files) => fault_text(alloc, fault, files),
-        None => fault_text(alloc, fault, &ConfFiles::new(alloc, Form::Dir)),
-    };
-    say(line, err);
+    let none = Files::new(alloc, Form::Dir);
+    say(fault_text(alloc, fault, &none), err);
     fault_status(fault)
 }
 
@@ -164,6 +164,17 @@ fn refuse_by<V: Write>(
 fn say<V: Write>(line: Result<Vec<u8>, AllocError>, err: &mut Out<V>) {
     if let Ok(line) = line {
         let _ = err.write_all(&line);
+    }
+    let _ = err.flush();
+}
+
+/// Writes a line to standard error as names are shown, since it names services and files, unless its allocation failed.
+fn say_names<V: Write>(line: Result<Vec<u8>, AllocError>, err: &mut Out<V>) {
+    if let Ok(line) = line {
+        if let Some((_, content)) = line.split_last() {
+            let _ = put_name(content, err);
+            let _ = err.put(b"\n");
+        }
     }
     let _ = err.flush();
 }

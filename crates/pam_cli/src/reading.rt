@@ -3,24 +3,24 @@
 ghost use Rattle.std.specs.Prelude.{◌≡◌, ◌⊎◌, ◌&&◌, IfErr, IfOk, MatchResult, is_some, map};
 ghost use Rattle.std.specs.Option.{option_copied};
 ghost use Rattle.pam_cli.specs.Reading.{IsNamed, has_user, IsReading, IsSide};
-ghost use Rattle.pam_cli.specs.inner.Reading.{IsAccessReading, IsCheckReading, IsGiven, IsGivenReading, IsKnowledgeReading, IsKnownReading};
-ghost use Rattle.pam_cli.specs.inner.Reading.{IsCompareReading, IsOfSide};
+ghost use Rattle.pam_cli.specs.inner.Reading.{IsAccessReading, IsCheckReading, IsGivenReading, IsKnowledgeReading, IsKnownReading};
+ghost use Rattle.pam_cli.specs.inner.Reading.{IsCompareReading, IsOfSide, IsRightFile};
 ghost use Rattle.pam_cli.specs.Sources.{IsUnread};
 ghost use Rattle.pam_words.specs.Wanted.{candidate_view};
 
 mod files;
-mod inside;
 mod module_paths;
 mod modules;
 mod sources;
 mod tables;
 
+use crate::system::System;
 use files::named_file;
 use modules::modules_there;
 use pam_conf::Files;
 use pam_report::{CheckInputs, InputError, Inputs, KnowledgeInputs, SideInputs};
 use pam_words::{Candidate, CheckFiles, CompareFiles, ConfSource, KnowledgeSource, Request, Task};
-use sources::source_files;
+use sources::{Configuration, source_files};
 use std::alloc::Global;
 use tables::{LookedUp, table_files};
 
@@ -31,49 +31,51 @@ const ALL_TABLES: LookedUp = LookedUp {
 };
 
 /// Reads a file, if one is named.
-fn optional_file<R: std::rt::Files>(
-    rt: &R,
+fn optional_file<S: System>(
+    system: &S,
     alloc: Global,
     name: Option<&str>,
 ) -> Result<Option<Vec<u8>>, InputError>
-    ensures { MatchResult result (λ given. IsGiven given name.entry) (IsUnread (IsNamed (option_copied name.entry))) }
+    ensures ok { IfOk result (IsRightFile (S.told system.now) name.entry) }
+    ensures error { IfErr result (IsUnread (IsNamed (option_copied name.entry))) }
 {
     match name {
-        Some(name) => Ok(Some(named_file(rt, alloc, name)?)),
+        Some(name) => Ok(Some(named_file(system, alloc, name)?)),
         None => Ok(None),
     }
 }
 
 /// Reads two files in turn, each if it is named.
-fn optional_files<R: std::rt::Files>(
-    rt: &R,
+fn optional_files<S: System>(
+    system: &S,
     alloc: Global,
     first: Option<&str>,
     second: Option<&str>,
 ) -> Result<(Option<Vec<u8>>, Option<Vec<u8>>), InputError>
-    ensures ok { IfOk result (λ given. IsGiven given.0 first.entry × IsGiven given.1 second.entry) }
+    ensures ok { IfOk result (λ given. IsRightFile (S.told system.now) first.entry given.0 × IsRightFile (S.told system.now) second.entry given.1) }
     ensures error { IfErr result (IsUnread (λ n. IsNamed (option_copied first.entry) n ⊎ IsNamed (option_copied second.entry) n)) }
 {
-    let first = optional_file(rt, alloc, first)?;
-    let second = optional_file(rt, alloc, second)?;
+    let first = optional_file(system, alloc, first)?;
+    let second = optional_file(system, alloc, second)?;
     Ok((first, second))
 }
 
 /// Looks for the modules of a configuration, and reads the tables of its system or those that are named, and the facts file and the
 /// accept file that are named.
-fn given_inputs<R: std::rt::Files + AllocGlobal + Clone + Drop>(
-    rt: &R,
+fn given_inputs<S: System>(
+    system: &S,
     alloc: Global,
     source: ConfSource<'_>,
     named: &CheckFiles<'_>,
-    files: &Files,
+    found: &Configuration,
 ) -> Result<CheckInputs, InputError>
-    ensures { IsGivenReading source.entry named.now result }
+    ensures { IsGivenReading (S.told system.now) found.now.vendor_start source.entry named.now result }
 {
-    let there = modules_there(rt, alloc, source, &named.modules, files)?;
-    let tables = table_files(rt, alloc, source, named.tables, ALL_TABLES)?;
-    let others = optional_files(rt, alloc, named.facts, named.accept)?;
+    let there = modules_there(system, alloc, source, &named.modules, &found.files)?;
+    let tables = table_files(system, alloc, source, named.tables, ALL_TABLES)?;
+    let others = optional_files(system, alloc, named.facts, named.accept)?;
     Ok(CheckInputs {
+        vendor_start: found.vendor_start,
         there,
         tables,
         facts: others.0,
@@ -82,17 +84,17 @@ fn given_inputs<R: std::rt::Files + AllocGlobal + Clone + Drop>(
 }
 
 /// Reads a configuration with its paths, and what else a check is given.
-fn check_inputs<R: std::rt::Files + AllocGlobal + Clone + Drop>(
-    rt: &R,
+fn check_inputs<S: System>(
+    system: &S,
     alloc: Global,
     source: ConfSource<'_>,
     candidates: &[Candidate<'_>],
     named: &CheckFiles<'_>,
 ) -> Result<Inputs, InputError>
-    ensures { IsCheckReading (map candidate_view candidates.now) source.entry named.now result }
+    ensures { IsCheckReading (S.told system.now) (map candidate_view candidates.now) source.entry named.now result }
 {
-    let found = source_files(rt, alloc, source, candidates)?;
-    let given = given_inputs(rt, alloc, source, named, &found.files)?;
+    let found = source_files(system, alloc, source, candidates)?;
+    let given = given_inputs(system, alloc, source, named, &found)?;
     Ok(Inputs::Host {
         files: found.files,
         paths: found.paths,
@@ -101,32 +103,32 @@ fn check_inputs<R: std::rt::Files + AllocGlobal + Clone + Drop>(
 }
 
 /// Reads a side of a comparison, and looks for its modules.
-fn side_inputs<R: std::rt::Files + AllocGlobal + Clone + Drop>(
-    rt: &R,
+fn side_inputs<S: System>(
+    system: &S,
     alloc: Global,
     source: ConfSource<'_>,
     named: &CompareFiles<'_>,
 ) -> Result<SideInputs, InputError>
-    ensures { MatchResult result (IsSide source.entry named.now) (IsUnread (IsOfSide source.entry named.now)) }
+    ensures { MatchResult result (IsSide (S.told system.now) source.entry named.now) (IsUnread (IsOfSide source.entry named.now)) }
 {
-    let files = source_files(rt, alloc, source, &[])?.files;
-    let there = modules_there(rt, alloc, source, &named.modules, &files)?;
+    let files = source_files(system, alloc, source, &[])?.files;
+    let there = modules_there(system, alloc, source, &named.modules, &files)?;
     Ok(SideInputs { files, there })
 }
 
 /// Reads the old configuration and the new one, and what else a comparison is given.
-fn compare_inputs<R: std::rt::Files + AllocGlobal + Clone + Drop>(
-    rt: &R,
+fn compare_inputs<S: System>(
+    system: &S,
     alloc: Global,
     old: ConfSource<'_>,
     new: ConfSource<'_>,
     named: &CompareFiles<'_>,
 ) -> Result<Inputs, InputError>
-    ensures { IsCompareReading old.entry new.entry named.now result }
+    ensures { IsCompareReading (S.told system.now) old.entry new.entry named.now result }
 {
-    let old = side_inputs(rt, alloc, old, named)?;
-    let new = side_inputs(rt, alloc, new, named)?;
-    let others = optional_files(rt, alloc, named.facts, named.returns)?;
+    let old = side_inputs(system, alloc, old, named)?;
+    let new = side_inputs(system, alloc, new, named)?;
+    let others = optional_files(system, alloc, named.facts, named.returns)?;
     Ok(Inputs::Sides {
         old,
         new,
@@ -136,16 +138,16 @@ fn compare_inputs<R: std::rt::Files + AllocGlobal + Clone + Drop>(
 }
 
 /// Reads the group file, if one is named, then the access table.
-fn access_inputs<R: std::rt::Files>(
-    rt: &R,
+fn access_inputs<S: System>(
+    system: &S,
     alloc: Global,
     table: &str,
     groups: Option<&str>,
 ) -> Result<Inputs, InputError>
-    ensures { IsAccessReading table.entry groups.entry result }
+    ensures { IsAccessReading (S.told system.now) table.entry groups.entry result }
 {
-    let groups = optional_file(rt, alloc, groups)?;
-    let table = named_file(rt, alloc, table)?;
+    let groups = optional_file(system, alloc, groups)?;
+    let table = named_file(system, alloc, table)?;
     Ok(Inputs::Access { table, groups })
 }
 
@@ -164,18 +166,18 @@ fn looked_up(named: &KnowledgeSource<'_>) -> LookedUp
 
 /// Looks for the modules of a configuration, and reads the tables of its system or those that are named, and the returns file that is
 /// named.
-fn known_inputs<R: std::rt::Files + AllocGlobal + Clone + Drop>(
-    rt: &R,
+fn known_inputs<S: System>(
+    system: &S,
     alloc: Global,
     source: ConfSource<'_>,
     named: &KnowledgeSource<'_>,
     files: &Files,
 ) -> Result<KnowledgeInputs, InputError>
-    ensures { IsKnownReading source.entry named.now result }
+    ensures { IsKnownReading (S.told system.now) source.entry named.now result }
 {
-    let there = modules_there(rt, alloc, source, &named.modules, files)?;
-    let tables = table_files(rt, alloc, source, named.tables, looked_up(named))?;
-    let returns = optional_file(rt, alloc, named.returns)?;
+    let there = modules_there(system, alloc, source, &named.modules, files)?;
+    let tables = table_files(system, alloc, source, named.tables, looked_up(named))?;
+    let returns = optional_file(system, alloc, named.returns)?;
     Ok(KnowledgeInputs {
         there,
         tables,
@@ -184,44 +186,46 @@ fn known_inputs<R: std::rt::Files + AllocGlobal + Clone + Drop>(
 }
 
 /// Reads a configuration, and then what is known of the answers of its modules.
-fn knowledge_inputs<R: std::rt::Files + AllocGlobal + Clone + Drop>(
-    rt: &R,
+fn knowledge_inputs<S: System>(
+    system: &S,
     alloc: Global,
     source: ConfSource<'_>,
     candidates: &[Candidate<'_>],
     named: &KnowledgeSource<'_>,
 ) -> Result<Inputs, InputError>
-    ensures { IsKnowledgeReading (map candidate_view candidates.now) source.entry named.now result }
+    ensures { IsKnowledgeReading (S.told system.now) (map candidate_view candidates.now) source.entry named.now result }
 {
-    let files = source_files(rt, alloc, source, candidates)?.files;
-    let given = known_inputs(rt, alloc, source, named, &files)?;
+    let files = source_files(system, alloc, source, candidates)?.files;
+    let given = known_inputs(system, alloc, source, named, &files)?;
     Ok(Inputs::Paths { files, given })
 }
 
 /// Reads the files of a request: the configuration, the folders of modules, the group file, the access table, the time table, and then
 /// the other files.
-pub(crate) fn inputs_of<R: std::rt::Files + AllocGlobal + Clone + Drop>(
-    rt: &R,
+pub(crate) fn inputs_of<S: System>(
+    system: &S,
     alloc: Global,
     request: &Request<'_>,
 ) -> Result<Inputs, InputError>
-    ensures { IsReading (map candidate_view request.now.candidates.items) request.now.task result }
+    ensures { IsReading (S.told system.now) (map candidate_view request.now.candidates.items) request.now.task result }
 {
     let candidates = &request.candidates;
     match &request.task {
-        Task::Check { source, given, .. } => check_inputs(rt, alloc, *source, candidates, given),
+        Task::Check { source, given, .. } => check_inputs(
+            system, alloc, *source, candidates, given,
+        ),
         Task::Compare {
             old,
             new,
             given,
             ..
-        } => compare_inputs(rt, alloc, *old, *new, given),
+        } => compare_inputs(system, alloc, *old, *new, given),
         Task::Show { source, .. } | Task::Decide { source, .. } => Ok(Inputs::Stack(
-            source_files(rt, alloc, *source, candidates)?.files,
+            source_files(system, alloc, *source, candidates)?.files,
         )),
-        Task::Access { table, groups, .. } => access_inputs(rt, alloc, table, *groups),
+        Task::Access { table, groups, .. } => access_inputs(system, alloc, table, *groups),
         Task::Time { table, .. } => Ok(Inputs::Time {
-            table: named_file(rt, alloc, table)?,
+            table: named_file(system, alloc, table)?,
         }),
         Task::Paths {
             source,
@@ -237,7 +241,7 @@ pub(crate) fn inputs_of<R: std::rt::Files + AllocGlobal + Clone + Drop>(
             source,
             knowledge,
             ..
-        } => knowledge_inputs(rt, alloc, *source, candidates, knowledge),
+        } => knowledge_inputs(system, alloc, *source, candidates, knowledge),
         Task::Explain(_) | Task::Facts | Task::Version => Ok(Inputs::Nothing),
     }
 }

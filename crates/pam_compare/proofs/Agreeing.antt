@@ -1,8 +1,8 @@
 -- From names to assignments that agree.
 use Rattle.std.proofs.Common.{◌≡◌, ◌<◌, ◌≤◌, ◌+◌, ◌-◌, ◌∙◌, ℕ, zero, suc, Bool, true, false, cond, List, Option, Some, None}
 use Rattle.std.proofs.Common.{ap, sym, refl, subst, inl, inr, arith, leb}
-use Rattle.std.specs.Prelude.{IfSome, IsSome}
-use Rattle.std.proofs.lemmas.Bool.{cases_lt, false≢true}
+use Rattle.std.specs.Prelude.{IfSome}
+use Rattle.std.proofs.lemmas.Bool.{cases_lt}
 use Rattle.pam_dispatch.specs.declared.flat_item.FlatItem.{FlatItem}
 use Rattle.pam_dispatch.specs.declared.state.State.{State}
 use Rattle.pam_dispatch.specs.Decision.{decision_of}
@@ -11,13 +11,18 @@ use Rattle.pam_dispatch.specs.Runs.{Assignment, AsksRise, Runs, ends, asks, fina
 use Rattle.pam_paths.specs.Listing.{Allowance, IsAllowed}
 use Rattle.pam_compare.specs.declared.change.Change.{Change}
 use Rattle.pam_compare.specs.declared.nodes.Found.{Found}
+use Rattle.pam_compare.specs.declared.nodes.Way.{Way}
 use Rattle.pam_compare.specs.declared.witness.Witness.{Witness}
 use Rattle.pam_compare.specs.Changes.{change_of}
 use Rattle.pam_compare.specs.Comparison.{IsShown, IsWitness, NeverChanges, decision_in}
 use Rattle.pam_compare.specs.Agreement.{Agree}
 use Rattle.pam_compare.specs.Names.{AreNames, by_name, name_of}
 use Rattle.pam_compare.specs.inner.Naming.{IsKnown, IsPossible}
-use Rattle.pam_compare.specs.inner.Nodes.{IsNoted, IsSearched}
+use Rattle.pam_compare.specs.inner.Nodes.{IsFoundWithin, IsSearched, found_at}
+use Rattle.pam_compare.specs.Questions.{EndsAfter}
+use Rattle.pam_compare.specs.Walks.{Order}
+use Rattle.pam_compare.proofs.Growing.{nothing}
+use Rattle.pam_compare.proofs.Questions.{each-ends, ends-same}
 
 -- a run looks at the answers of its modules alone
 pub same-final : (a b : Assignment) (low high : ℕ) (runs : Runs) → AsksRise low high runs →
@@ -73,6 +78,15 @@ both-codes count a b at_a at_b x = by (leb x count)
     by true = at_a x
     by false = at_b (x - count)
 
+-- one assignment to names, which makes the change that two assignments make, in as many steps
+pub record Named (old new : List FlatItem) (names : List ℕ) (possible : List (List ℕ)) (a b : Assignment) : Type 0 where
+  pub answers : Assignment
+  pub can : IsPossible possible answers
+  pub makes : change_of (decision_in (runs_of old) answers) (decision_in (runs_of new) (by_name names answers)) ≡
+      change_of (decision_in (runs_of old) a) (decision_in (runs_of new) b)
+  pub ends : (old_first : Order) (n : ℕ) → EndsAfter names old_first a b n (runs_of old) (runs_of new) →
+      EndsAfter names old_first answers (by_name names answers) n (runs_of old) (runs_of new)
+
 module _ (old_allows new_allows : Allowance) (old new : List FlatItem) (partners : List (Option ℕ)) (names : List ℕ)
     (named : AreNames old_allows new_allows (modules_of old) (modules_of new) partners names) where
   module _ (a b : Assignment) (old_codes : IsAllowed old_allows (modules_of old) a) (new_codes : IsAllowed new_allows (modules_of new) b)
@@ -117,27 +131,36 @@ module _ (old_allows new_allows : Allowance) (old new : List FlatItem) (partners
     unfolding NeverChanges
     never-any none change a b old_codes new_codes agree is = none (one a b old_codes new_codes agree) (can _ (is-known a b old_codes new_codes agree))
 
-    module _ (found : Found) (searched : IsSearched old new names possible found)
-        (rise_old : AsksRise 0 (modules_of old) (runs_of old)) (rise_new : AsksRise 0 (modules_of new) (runs_of new)) where
-      noted : (a b : Assignment) → IsAllowed old_allows (modules_of old) a → IsAllowed new_allows (modules_of new) b →
-          Agree old_allows new_allows (modules_of old) (modules_of new) partners a b →
-          IsNoted found (change_of (decision_in (runs_of old) a) (decision_in (runs_of new) b))
-      unfolding IsSearched
-      noted a b old_codes new_codes agree =
+    module _ (rise_old : AsksRise 0 (modules_of old) (runs_of old)) (rise_new : AsksRise 0 (modules_of new) (runs_of new)) where
+      -- one assignment that does what two do
+      pub as-one : (a b : Assignment) → IsAllowed old_allows (modules_of old) a → IsAllowed new_allows (modules_of new) b →
+          Agree old_allows new_allows (modules_of old) (modules_of new) partners a b → Named old new names possible a b
+      as-one a b old_codes new_codes agree =
           let c = one a b old_codes new_codes agree in
           let left = same-final c a 0 (modules_of old) (runs_of old) rise_old (at-old a b old_codes new_codes agree) in
           let right = same-final (by_name names c) b 0 (modules_of new) (runs_of new) rise_new (at-new a b old_codes new_codes agree) in
-          subst (λ (n : ℕ). IsNoted found (change_of n (decision_in (runs_of new) b))) (ap (λ (s : State). decision_of s) left)
-          (subst (λ (n : ℕ). IsNoted found (change_of (decision_in (runs_of old) c) n)) (ap (λ (s : State). decision_of s) right)
-          (searched c (can c (is-known a b old_codes new_codes agree))))
+          record {
+            answers = c;
+            can = can c (is-known a b old_codes new_codes agree);
+            makes = ap (λ (s : State). change_of (decision_of s) (decision_in (runs_of new) (by_name names c))) left
+                ∙ ap (λ (s : State). change_of (decision_in (runs_of old) a) (decision_of s)) right;
+            ends = λ old_first n end. ends-same old new names old_first a b c (by_name names c)
+                (λ i positive most. sym (at-old a b old_codes new_codes agree i positive most))
+                (λ j positive most. sym (at-new a b old_codes new_codes agree j positive most)) n (runs_of old) (runs_of new) 0 0 rise_old rise_new end;
+          }
 
-      never : (change : Change) → (IsNoted found (Some change) → ⊥) → NeverChanges old_allows new_allows old new partners change
-      unfolding NeverChanges
-      never change missing a b old_codes new_codes agree is = missing (subst (IsNoted found) is (noted a b old_codes new_codes agree))
+      module _ (old_first : Order) (ways : List Way) (found : Found) (searched : IsSearched old new names old_first possible ways found) where
+        never : (change : Change) → found_at found change ≡ None → NeverChanges old_allows new_allows old new partners change
+        unfolding NeverChanges IsSearched
+        never change missing a b old_codes new_codes agree is =
+            let named = as-one a b old_codes new_codes agree in
+            let walk = each-ends names old_first named.answers (by_name names named.answers) (runs_of old) (runs_of new) in
+            let there : IsFoundWithin found ways walk.0 (Some change) =
+            subst (IsFoundWithin found ways walk.0) (named.makes ∙ is) (searched named.answers walk.0 named.can walk.1) in
+            nothing there.0 (sym missing ∙ there.1)
 
-      -- a change that was not found is never made
-      pub shown : (change : Change) (index : Option ℕ) → (IsNoted found (Some change) → IsSome index) → (w : Option Witness) →
-          IfSome w (IsWitness old_allows new_allows old new partners change) → (w ≡ None → index ≡ None) →
-          IsShown old_allows new_allows old new partners change w
-      shown change index is None h none = never change (λ noted. false≢true (subst IsSome (none refl) (is noted)))
-      shown change index is (Some w) h none = h
+        -- a change that was not found is never made
+        pub shown : (change : Change) (w : Option Witness) → IfSome w (IsWitness old_allows new_allows old new partners change) →
+            (w ≡ None → found_at found change ≡ None) → IsShown old_allows new_allows old new partners change w
+        shown change None h none = never change (none refl)
+        shown change (Some w) h none = h

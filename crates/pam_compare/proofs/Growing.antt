@@ -22,11 +22,12 @@ use Rattle.pam_compare.specs.declared.held_lists.HeldLists.{HeldLists}
 use Rattle.pam_compare.specs.declared.held_lists.Link.{Link}
 use Rattle.pam_compare.specs.declared.situation.Situation.{Situation}
 use Rattle.pam_compare.specs.Held.{Holds}
+use Rattle.pam_compare.specs.Walks.{Order}
 use Rattle.pam_compare.specs.inner.HeldLists.{AreLinks, IsListed}
 use Rattle.pam_compare.specs.inner.Nodes.{AreEndsOf, AreHeldAt, AreNodes, ArePlaces, IsAt, IsDone, IsLeftAt, IsMet}
-use Rattle.pam_compare.specs.inner.Nodes.{IsNew, IsNoted, IsStored, IsVisited, Keeps, KeepsNodes}
+use Rattle.pam_compare.specs.inner.Nodes.{IsNear, IsNew, IsNoted, IsStored, IsVisited, Keeps, KeepsFound, KeepsNodes, found_at}
 use Rattle.pam_compare.specs.inner.Nodes.{Stop, list_of}
-use Rattle.pam_compare.proofs.Lists.{listed-kept}
+use Rattle.pam_compare.proofs.Lists.{listed-kept, one-listed}
 
 pub nothing : {X : Type 0} (x : X) → None ≡ Some x → ⊥
 nothing x e = cc
@@ -95,6 +96,11 @@ unfolding Keeps
 kept-back xs ys k x keeps within at =
     let was = slice_get-get_or xs k x within in
     was ∙ sym (keeps k (get_or xs k x) was) ∙ at
+
+-- something is there within a list
+pub there-within : {X : Type 0} (xs : List X) (k : ℕ) → k < length xs → (x : X) × (slice_get xs k ≡ Some x)
+there-within [] k below = absurd (omega arith)
+there-within (x ∷ xs) k below = (get_or (x ∷ xs) k x, slice_get-get_or (x ∷ xs) k x below)
 
 pub longer : {X : Type 0} (xs ys : List X) (k : ℕ) → Keeps xs ys → k < length xs → k < length ys
 longer {X} xs ys k keeps within = go xs within (λ x at. kept xs ys k x keeps at)
@@ -195,18 +201,45 @@ held-kept before after index held keeps within is =
     (listed-kept _ _ s.held held keeps.held_lists (subst (λ (o : Option Situation). IsListed before.held_lists.links.keys (list_of o) held) there is))
 
 -- what is visited stays visited
-pub visited-kept : (old new : List FlatItem) (names : List ℕ) (possible : List (List ℕ)) (before after : Nodes) (found more : Found) (s : Situation) →
-    KeepsNodes before after → ((c : Option Change) → IsNoted found c → IsNoted more c) →
-    IsVisited old new names possible before found s → IsVisited old new names possible after more s
-unfolding IsDone
-visited-kept old new names possible before after found more s keeps noted v = record {
+-- what is found at the first node stays there
+pub first-kept : (old new : List FlatItem) (before after : Nodes) (a : Assignment) (left right : Runs) → KeepsNodes before after →
+    (m : IsMet old new before a left right) × (m.index ≡ 0) → (m : IsMet old new after a left right) × (m.index ≡ 0)
+unfolding met-kept
+first-kept old new before after a left right keeps first = (met-kept old new before after a left right keeps first.0, first.1)
+
+pub found-same : (f : Found) → KeepsFound f f
+unfolding KeepsFound
+found-same f change k is = is
+
+noted-kept : (found more : Found) (index : ℕ) (change : Option Change) → KeepsFound found more → IsNoted found index change → IsNoted more index change
+unfolding KeepsFound
+noted-kept found more index None keeps noted = tt
+noted-kept found more index (Some change) keeps noted = (noted.0, keeps change noted.0 noted.1, noted.2)
+
+near-kept : (before after : Nodes) (index met : ℕ) → KeepsNodes before after → IsNear before index met → IsNear after index met
+near-kept before after index met keeps (inl first) = inl first
+near-kept before after index met keeps (inr from) = inr (from.0, kept _ _ met from.0 keeps.ways from.1, from.2)
+
+pub visited-kept : (old new : List FlatItem) (names : List ℕ) (old_first : Order) (possible : List (List ℕ)) (before after : Nodes) (found more : Found)
+    (index : ℕ) (s : Situation) → KeepsNodes before after → KeepsFound found more →
+    IsVisited old new names old_first possible before found index s → IsVisited old new names old_first possible after more index s
+unfolding IsDone met-kept
+visited-kept old new names old_first possible before after found more index s keeps noted v = record {
   node = v.node;
   is_at = at-kept before after s v.node keeps v.is_at;
   done = λ a can holds. elim (v.done a can holds) [
-    | inl d ↦ inl (noted _ d)
-    | inr w ↦ inr (w.0, w.1, met-kept old new before after a _ _ keeps w.2)
+    | inl d ↦ inl (noted-kept found more index _ noted d)
+    | inr w ↦
+        let f = w.0 in
+        inr ((f.0, f.1, met-kept old new before after a _ _ keeps f.2), near-kept before after index f.2.index keeps w.1)
   ];
 }
+
+-- a situation is that of one node
+pub same-node : (nodes : Nodes) (s : Situation) (n m : Stop) → IsAt nodes s n → IsAt nodes s m →
+    (n.old ≡ m.old) × (n.new ≡ m.new) × (n.held ≡ m.held)
+same-node nodes s n m one other =
+    (same-some n.old m.old (sym one.old ∙ other.old), same-some n.new m.new (sym one.new ∙ other.new), one-listed _ s.held _ _ one.held other.held)
 
 -- VALUES OF A SET
 

@@ -1,6 +1,7 @@
 pub mod Agreeing
 pub mod Ahead
 pub mod Allowed
+pub mod Choosing
 pub mod Classes
 pub mod Coming
 pub mod Ends
@@ -17,12 +18,15 @@ pub mod Once
 pub mod Passing
 pub mod Placing
 pub mod Possible
+pub mod Preferring
+pub mod Questions
 pub mod Ranges
 pub mod Reaching
 pub mod Sameness
 pub mod Standing
 pub mod Stepping
 pub mod Trails
+pub mod Turns
 pub mod Walking
 pub mod Witnessing
 pub mod Writing

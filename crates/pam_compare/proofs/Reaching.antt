@@ -27,8 +27,7 @@ use Rattle.pam_compare.specs.Walks.{new_after, old_after, turn_name}
 use Rattle.pam_compare.specs.inner.Turn.{AreAlike, IsTurn}
 use Rattle.pam_compare.specs.inner.Ways.{AreEnds, IsFit, IsReachedAt, IsWayTo}
 use Rattle.pam_compare.proofs.Coming.{comes-on}
-use Rattle.pam_compare.proofs.Growing.{at-kept, kept}
-use Rattle.pam_compare.proofs.Meeting.{same-node}
+use Rattle.pam_compare.proofs.Growing.{at-kept, kept, same-node}
 use Rattle.pam_compare.proofs.Trails.{covered-suits, follows-longer, longer-covered, trail-kept, with-other, with-same}
 
 -- THE ANSWERS OF A TRAIL ARE POSSIBLE
@@ -116,7 +115,7 @@ module _ (old new : List FlatItem) (names : List ℕ) (left right : Runs) (old_l
   stays-past (New j) code is name past = record { of_old = past.of_old; of_new = new-stays name code j is past.of_new }
   stays-past (Both i j) code is name past = record { of_old = old-stays name code i is.0 past.of_old; of_new = new-stays name code j is.1 past.of_new }
 
-  old-rises : (turn : Turn) (code : ℕ) → IsTurn names (asked_module left) (asked_module right) turn →
+  pub old-rises : (turn : Turn) (code : ℕ) → IsTurn names (asked_module left) (asked_module right) turn →
       (low : ℕ) × AsksRise low (modules_of old) (old_after turn left code)
   old-rises (Old i) code is = (i, (AsksRise-step old_low (modules_of old) left i old_rise is).2 code)
   old-rises (New j) code is = (old_low, old_rise)
@@ -205,7 +204,12 @@ module _ (old new : List FlatItem) (names : List ℕ) (possible : List (List ℕ
         new_low = new_rises.0;
         new_rise = new_rises.1;
         fits = (
-          record { code = step.low w.code step.member; member = step.within w.code step.member; within = omega (arith, step.name, name, all) },
+          record {
+            code = step.low w.code step.member;
+            member = step.within w.code step.member;
+            within = omega (arith, step.name, name, all);
+            usual = step.usual;
+          },
           way.fits,
         );
         follows = way-follows;
@@ -245,6 +249,8 @@ ends-kept old new before after found keeps ends change k is =
       node = e.node;
       is_there = kept _ _ k e.situation keeps.situations e.is_there;
       is_at = at-kept before after e.situation e.node keeps e.is_at;
+      old_ends = e.old_ends;
+      new_ends = e.new_ends;
       change_is = e.change_is;
     }
 

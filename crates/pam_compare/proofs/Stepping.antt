@@ -1,10 +1,11 @@
 -- Steps from one node to another, of which no two from one node have one class.
-use Rattle.std.proofs.Common.{◌≡◌, ◌<◌, ◌+◌, ◌∙◌, ◌⊎◌, inl, inr, ℕ, List, [], ◌∷◌, ◌++◌, Some, ap, arith, length, map, subst, sym}
+use Rattle.std.proofs.Common.{◌≡◌, ◌<◌, ◌≤◌, ◌+◌, ◌∙◌, ◌⊎◌, inl, inr, ℕ, List, [], ◌∷◌, ◌++◌, Some, ap, arith, length, map, subst, sym}
 use Rattle.std.specs.Prelude.{slice_get}
+use Rattle.std.proofs.lemmas.Option.{slice_get_within}
 use Rattle.pam_compare.specs.declared.held.HeldAnswer.{HeldAnswer}
 use Rattle.pam_compare.specs.declared.nodes.Way.{Way}
 use Rattle.pam_compare.specs.inner.Trails.{IsTrail}
-use Rattle.pam_compare.specs.inner.Ways.{AreBelow, AreOrdered, AreUnique, HasOneMore, IsFresh, step_of}
+use Rattle.pam_compare.specs.inner.Ways.{AreBelow, AreOrdered, AreRising, AreUnique, HasOneMore, IsFresh, step_of}
 use Rattle.pam_compare.proofs.Growing.{append-cases, nothing}
 
 unique-push : (ways : List Way) (way : Way) → AreUnique ways → IsFresh ways way.parent way.class → AreUnique (ways ++ way ∷ [])
@@ -36,10 +37,11 @@ one-of before after way (inr more) j w at =
 
 -- at the start there is no step
 pub ordered-first : (after : List Way) (way : Way) (before : List Way) → before ≡ [] → HasOneMore before after way → AreOrdered after 0
-unfolding AreUnique AreBelow
+unfolding AreUnique AreBelow AreRising
 ordered-first after way before none more = record {
   unique = λ j k v w first second at. absurd (no-step j v first at);
   below = λ j w first at. absurd (no-step j w first at);
+  rising = λ j k v w first most at. absurd (no-step j v first at);
 }
   where
     empty : (j : ℕ) (w : Way) → slice_get before j ≡ Some w → ⊥
@@ -55,6 +57,37 @@ ordered-first after way before none more = record {
               | inl was ↦ empty j w was
               | inr new ↦ let size = ap (λ (l : List Way). length l) none in omega (arith, first, new.1, size)
             ]
+
+rising-push : (ways : List Way) (way : Way) → AreRising ways → AreBelow ways (way.parent + 1) → AreRising (ways ++ way ∷ [])
+unfolding AreRising AreBelow
+rising-push ways way rising below j k v w first most at there =
+    elim (append-cases ways way k w there) [
+      | inl before ↦ elim (append-cases ways way j v at) [
+        | inl was ↦ rising j k v w first most was before
+        | inr new ↦ let inside = slice_get_within ways k w before in absurd (omega (arith, inside, new.1, most))
+      ]
+      | inr last ↦
+          let is : way.parent ≡ w.parent = ap (λ (x : Way). x.parent) last.0 in
+          elim (append-cases ways way j v at) [
+            | inl was ↦ let less = below j v first was in omega (arith, less, is)
+            | inr new ↦ let same : way.parent ≡ v.parent = ap (λ (x : Way). x.parent) new.0 in omega (arith, is, same)
+          ]
+    ]
+
+-- one more step, which is not from an earlier node
+pub rising-more : (before after : List Way) (way : Way) → HasOneMore before after way → AreRising before → AreBelow before (way.parent + 1) → AreRising after
+rising-more before after way (inl same) rising below = subst AreRising (sym same) rising
+rising-more before after way (inr more) rising below = subst AreRising (sym more) (rising-push before way rising below)
+
+-- later nodes are not reached by fewer steps
+pub steps-rise : (ways : List Way) → AreRising ways → (trail other : List Way) (j k : ℕ) → IsTrail ways j trail → IsTrail ways k other → j ≤ k →
+    length trail ≤ length other
+unfolding IsTrail AreRising
+steps-rise ways rising [] other j k t u most = omega arith
+steps-rise ways rising (v ∷ trail) [] j k t u most = absurd (omega (arith, t.0, u, most))
+steps-rise ways rising (v ∷ trail) (w ∷ other) j k t u most =
+    let rest = steps-rise ways rising trail other v.parent w.parent t.3 u.3 (rising j k v w t.0 most t.1 u.1) in
+    omega (arith, rest)
 
 pub below-more : (ways : List Way) (index : ℕ) → AreBelow ways index → AreBelow ways (index + 1)
 unfolding AreBelow

@@ -26,9 +26,9 @@ use Rattle.pam_compare.specs.inner.Turn.{AreAlike, StaysThere, first_of}
 use Rattle.pam_compare.specs.inner.Ways.{step_of, IsWalkTo, IsWalkedAt}
 use Rattle.pam_compare.proofs.Ahead.{filter-passes}
 use Rattle.pam_compare.proofs.Classes.{one-back, one-through}
-use Rattle.pam_compare.proofs.Growing.{at-kept}
-use Rattle.pam_compare.proofs.Meeting.{same-node}
+use Rattle.pam_compare.proofs.Growing.{at-kept, same-node}
 use Rattle.pam_compare.proofs.Trails.{trail-kept}
+use Rattle.pam_compare.proofs.Turns.{named-code}
 
 -- CODES OF ONE CLASS
 
@@ -54,12 +54,6 @@ class-other names possible left right held turn code other class is member =
       alike = λ d h. one-through turn left right other code d (one-back turn left right code other alike) (is.alike d h);
       all = λ d low can leaves one. is.all d low can leaves (one-through turn left right code other d alike one);
     }
-
--- the code that is answered, where both stacks answer by names
-named-code : (names : List ℕ) (turn : Turn) (a : Assignment) → turn_code turn a (by_name names a) ≡ a (turn_name names turn)
-named-code names (Old i) a = refl
-named-code names (New j) a = refl
-named-code names (Both i j) a = refl
 
 pub stays-there : (turn : Turn) (left right : Runs) (code : ℕ) →
     StaysThere turn (asked_module left) (asked_module right) (asked_module (old_after turn left code)) (asked_module (new_after turn right code))

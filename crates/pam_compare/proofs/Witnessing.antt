@@ -12,7 +12,7 @@ use Rattle.pam_compare.specs.declared.change.Change.{Change}
 use Rattle.pam_compare.specs.declared.witness.Witness.{Witness}
 use Rattle.pam_compare.specs.Agreement.{Agree}
 use Rattle.pam_compare.specs.Changes.{change_of}
-use Rattle.pam_compare.specs.Comparison.{IsWitness, decision_in}
+use Rattle.pam_compare.specs.Comparison.{IsPreferred, IsWitness, decision_in}
 use Rattle.pam_compare.specs.Names.{AreNames, by_name}
 use Rattle.pam_compare.specs.inner.Naming.{IsKnown, IsPossible}
 use Rattle.pam_compare.specs.inner.Trails.{AreAnswers}
@@ -53,7 +53,8 @@ module _ (old_allows new_allows : Allowance) (old new : List FlatItem) (partners
     (a : Assignment) (may : IsPossible possible a) (old_comes : Comes (runs_of old) a left) (new_comes : Comes (runs_of new) (by_name names a) right)
     (w : Witness) (of_old : AreAnswers (modules_of old) a w.old_codes.items) (of_new : AreAnswers (modules_of new) (by_name names a) w.new_codes.items)
     (old_decides : w.old ≡ decision_in (runs_of old) (answers_of w.old_codes.items))
-    (new_decides : w.new ≡ decision_in (runs_of new) (answers_of w.new_codes.items)) where
+    (new_decides : w.new ≡ decision_in (runs_of new) (answers_of w.new_codes.items))
+    (preferred : IsPreferred old_allows new_allows old new partners change w) where
   old-decision : w.old ≡ decision_in left a
   old-decision =
       old_decides
@@ -89,4 +90,5 @@ module _ (old_allows new_allows : Allowance) (old new : List FlatItem) (partners
     old_decision = old_decides;
     new_decision = new_decides;
     change_is = ap (λ (n : ℕ). change_of n w.new) old-decision ∙ ap (λ (n : ℕ). change_of (decision_in left a) n) new-decision ∙ ends a (by_name names a);
+    preferred = preferred;
   }

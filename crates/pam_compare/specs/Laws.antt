@@ -7,6 +7,7 @@ use Rattle.pam_dispatch.specs.Runs.{Assignment, Runs, asked_module}
 use Rattle.pam_paths.specs.Listing.{Allowance}
 use Rattle.pam_compare.specs.declared.comparing.TheConstants.{MAX_SITUATIONS}
 use Rattle.pam_compare.specs.declared.held.HeldAnswer.{HeldAnswer}
+use Rattle.pam_compare.specs.Questions.{EndsAfter}
 use Rattle.pam_compare.specs.Situations.{HasMoreSituations}
 use Rattle.pam_compare.specs.Walks.{IsAfter, Order}
 
@@ -24,6 +25,12 @@ HeldOnce =
     (answers : List HeldAnswer) (left right : Runs) (held : List HeldAnswer) →
     IsAfter old new names possible old_first old_answers new_answers answers left right held →
     AllPairs (λ one other. one.name ≢ other.name) held
+
+-- the walk of two stacks ends, whatever their modules answer
+abbrev pub EachWalkEnds : Type 0
+EachWalkEnds =
+    (names : List ℕ) (old_first : Order) (old_answers new_answers : Assignment) (old new : Runs) →
+    (n : ℕ) × EndsAfter names old_first old_answers new_answers n old new
 
 -- at most a million situations are looked at
 abbrev pub MostSituations : Type 0

@@ -5,6 +5,8 @@ pub mod Held
 pub mod Laws
 pub mod Matching
 pub mod Names
+pub mod Questions
 pub mod Situations
+pub mod Usual
 pub mod Walks
 pub mod inner

@@ -1,15 +1,15 @@
 //! The comparison.
 
-ghost use Rattle.std.specs.Prelude.{◌≡◌, ◌+◌, ◌<◌, ◌≤◌, ℕ, IfNone, IfOk, IfSome, List, None, OnOk, Option, Some, length, slice_get};
+ghost use Rattle.std.specs.Prelude.{◌≡◌, ◌+◌, ◌≤◌, ◌<◌, ℕ, IfNone, IfOk, IfSome, List, None, OnOk, Option, Some, length, slice_get};
 ghost use Rattle.pam_dispatch.specs.Flat.{IsPlaceOf, rest_of};
 ghost use Rattle.pam_dispatch.specs.Runs.{Assignment, asked_module};
 ghost use Rattle.pam_compare.specs.declared.change.Change.{Change};
 ghost use Rattle.pam_compare.specs.declared.situation.Situation.{Situation};
 ghost use Rattle.pam_compare.specs.Changes.{change_of};
 ghost use Rattle.pam_compare.specs.Comparison.{AreChanges, IsComparison, decision_in};
-ghost use Rattle.pam_compare.specs.inner.Naming.{IsPossible, by_code};
+ghost use Rattle.pam_compare.specs.inner.Naming.{AreUsual, IsPossible, by_code};
 ghost use Rattle.pam_paths.specs.Listing.{Allowance};
-ghost use Rattle.pam_compare.specs.inner.Nodes.{AreNodes, IsBegun, IsNoted, IsSearched, IsVisited, KeepsNodes};
+ghost use Rattle.pam_compare.specs.inner.Nodes.{AreEarlier, AreNodes, IsBegun, IsSearched, IsVisited, KeepsFound, KeepsNodes};
 ghost use Rattle.pam_compare.specs.Walks.{turn_of};
 ghost use Rattle.pam_compare.specs.inner.Turn.{IsTurn, first_of};
 ghost use Rattle.pam_compare.specs.inner.Ways.{AreEnds, AreOrdered, AreReached, AreUnique, AreWalked, IsNaming, IsNamingFor};
@@ -91,15 +91,18 @@ fn visit(
     requires walked { AreWalked pair.now.old.now pair.now.new.now pair.now.naming.now nodes.old }
     requires ordered { AreOrdered nodes.old.ways.items index }
     requires ends { AreEnds pair.now.old.now pair.now.new.now nodes.old found.old }
+    requires earlier { AreEarlier found.old index }
     ensures keeps { OnOk result (KeepsNodes nodes.old nodes.new) }
     ensures nodes { OnOk result (AreNodes pair.now.old.now pair.now.new.now nodes.new) }
     ensures reached { OnOk result (AreReached pair.now.old.now pair.now.new.now pair.now.naming.now.names.items pair.now.naming.now.possible.items nodes.new) }
     ensures walked { OnOk result (AreWalked pair.now.old.now pair.now.new.now pair.now.naming.now nodes.new) }
     ensures ordered { OnOk result (AreOrdered nodes.new.ways.items (index + 1)) }
     ensures ends { OnOk result (AreEnds pair.now.old.now pair.now.new.now nodes.new found.new) }
-    ensures found { (c : Option Change) → IsNoted found.old c → IsNoted found.new c }
+    ensures earlier { OnOk result (AreEarlier found.new (index + 1)) }
+    ensures found { KeepsFound found.old found.new }
     ensures visited { (s : Situation) → slice_get nodes.old.situations.keys index ≡ Some s
-        → OnOk result (IsVisited pair.now.old.now pair.now.new.now pair.now.naming.now.names.items pair.now.naming.now.possible.items nodes.new found.new s) }
+        → OnOk result (IsVisited pair.now.old.now pair.now.new.now pair.now.naming.now.names.items (first_of pair.now.naming.now.ranks)
+        pair.now.naming.now.possible.items nodes.new found.new index s) }
 {
     let node = nodes.node_at(alloc, index)?;
     let Some(turn) = turn_at(pair, &node) else {
@@ -158,7 +161,8 @@ fn search(alloc: Global, pair: &Pair<'_>, limit: usize) -> Result<Searched, Memo
     ensures walked { IfOk result (λ s. AreWalked pair.now.old.now pair.now.new.now pair.now.naming.now s.nodes) }
     ensures ends { IfOk result (λ s. AreEnds pair.now.old.now pair.now.new.now s.nodes s.found) }
     ensures all { IfOk result (λ s. length s.nodes.situations.keys ≤ limit
-        → IsSearched pair.now.old.now pair.now.new.now pair.now.naming.now.names.items pair.now.naming.now.possible.items s.found) }
+        → IsSearched pair.now.old.now pair.now.new.now pair.now.naming.now.names.items (first_of pair.now.naming.now.ranks)
+        pair.now.naming.now.possible.items s.nodes.ways.items s.found) }
 {
     let mut nodes = begin(alloc, pair)?;
     let mut found = Found::new();
@@ -195,11 +199,15 @@ fn changes_of(
     searched: &Searched,
 ) -> Result<Changes, Memory>
     requires usual { IsPossible pair.now.naming.now.possible.items (by_code usual.now) }
+    requires first { AreUsual pair.now.naming.now.possible.items usual.now }
+    requires naming { IsNaming pair.now.old.now pair.now.new.now pair.now.naming.now }
     requires reached { AreReached pair.now.old.now pair.now.new.now pair.now.naming.now.names.items pair.now.naming.now.possible.items searched.now.nodes }
+    requires walked { AreWalked pair.now.old.now pair.now.new.now pair.now.naming.now searched.now.nodes }
     requires ends { AreEnds pair.now.old.now pair.now.new.now searched.now.nodes searched.now.found }
     ensures { (old_allows new_allows : Allowance) (partners : List (Option ℕ))
         → IsNamingFor old_allows new_allows pair.now.old.now pair.now.new.now partners pair.now.naming.now
-        → IsSearched pair.now.old.now pair.now.new.now pair.now.naming.now.names.items pair.now.naming.now.possible.items searched.now.found
+        → IsSearched pair.now.old.now pair.now.new.now pair.now.naming.now.names.items (first_of pair.now.naming.now.ranks)
+        pair.now.naming.now.possible.items searched.now.nodes.ways.items searched.now.found
         → IfOk result (AreChanges old_allows new_allows pair.now.old.now pair.now.new.now partners) }
 {
     // A program says with the number of its modules that they are asked in order.
@@ -222,6 +230,7 @@ fn changes_of(
 fn compare_named(alloc: Global, pair: &Pair<'_>, usual: &[Code]) -> Result<Comparison, Memory>
     requires naming { IsNaming pair.now.old.now pair.now.new.now pair.now.naming.now }
     requires usual { IsPossible pair.now.naming.now.possible.items (by_code usual.now) }
+    requires first { AreUsual pair.now.naming.now.possible.items usual.now }
     ensures { (old_allows new_allows : Allowance) (partners : List (Option ℕ))
         → IsNamingFor old_allows new_allows pair.now.old.now pair.now.new.now partners pair.now.naming.now
         → IfOk result (IsComparison old_allows new_allows pair.now.old.now pair.now.new.now partners) }

@@ -138,7 +138,7 @@ pub(crate) fn expand(
     ensures nodes { OnOk result (AreNodes pair.now.old.now pair.now.new.now nodes.new) }
     ensures reached { OnOk result (AreReached pair.now.old.now pair.now.new.now pair.now.naming.now.names.items pair.now.naming.now.possible.items nodes.new) }
     ensures done { (a : Assignment) → IsPossible pair.now.naming.now.possible.items a → Holds a fork.now.node.now.held.items
-        → OnOk result (IsFollowed pair.now.old.now pair.now.new.now pair.now.naming.now.names.items nodes.new a
+        → OnOk result (IsFollowed pair.now.old.now pair.now.new.now pair.now.naming.now.names.items (first_of pair.now.naming.now.ranks) nodes.new a
         (rest_of pair.now.old.now fork.now.node.now.old) (rest_of pair.now.new.now fork.now.node.now.new)) }
 {
     let name = turn_name(pair.naming, fork.turn);

@@ -12,11 +12,11 @@ ghost use Rattle.pam_compare.specs.declared.change.Change.{Change};
 ghost use Rattle.pam_compare.specs.Held.{Holds};
 ghost use Rattle.pam_compare.specs.inner.Held.{held_in, same_situation};
 ghost use Rattle.pam_compare.specs.inner.HeldLists.{same_link};
-ghost use Rattle.pam_compare.specs.inner.Ways.{HasOneMore, found_at};
+ghost use Rattle.pam_compare.specs.inner.Ways.{HasOneMore};
 ghost use Rattle.pam_dispatch.specs.Keys.{AreDifferent};
 ghost use Rattle.std.specs.List.{IsDistinct};
 ghost use Rattle.pam_compare.specs.inner.Nodes.{AreAdded, AreEndsOf, AreHeldAt, AreNodes, ArePlaces, IsAt, IsLeftAt};
-ghost use Rattle.pam_compare.specs.inner.Nodes.{IsMet, IsNoted, Keeps, KeepsNodes, list_of, stop_of};
+ghost use Rattle.pam_compare.specs.inner.Nodes.{AreEarlier, IsMet, IsNoted, Keeps, KeepsFound, KeepsNodes, found_at, list_of, stop_of};
 
 use crate::change::Change;
 use crate::held::HeldAfter;
@@ -309,8 +309,9 @@ impl Found {
 
     /// Notes the node at `index` for a change, unless one is noted or there is no change.
     pub(crate) fn note(&mut self, change: Option<Change>, index: usize)
-        ensures noted { IsNoted self.new change }
-        ensures keeps { (c : Option Change) → IsNoted self.old c → IsNoted self.new c }
+        requires { AreEarlier self.old index }
+        ensures noted { IsNoted self.new index change }
+        ensures keeps { KeepsFound self.old self.new }
         ensures ends { (c : Change) (k : ℕ) → found_at self.new c ≡ Some k → (found_at self.old c ≡ Some k) ⊎ ((change ≡ Some c) × (k ≡ index)) }
     {
         match change {

@@ -7,10 +7,10 @@ ghost use Rattle.pam_paths.specs.Listing.{Allowance};
 ghost use Rattle.pam_compare.specs.declared.change.Change.{Change};
 ghost use Rattle.pam_compare.specs.declared.nodes.Way.{Way};
 ghost use Rattle.pam_compare.specs.Comparison.{IsWitness, decision_in};
-ghost use Rattle.pam_compare.specs.Names.{AreNames, by_name};
-ghost use Rattle.pam_compare.specs.inner.Naming.{IsKnown, IsPossible, by_code};
+ghost use Rattle.pam_compare.specs.Names.{by_name};
+ghost use Rattle.pam_compare.specs.inner.Naming.{AreUsual, IsPossible, by_code};
 ghost use Rattle.pam_compare.specs.inner.Trails.{AreAnswers, IsTrail, answers_on};
-ghost use Rattle.pam_compare.specs.inner.Ways.{AreReached, IsEnd};
+ghost use Rattle.pam_compare.specs.inner.Ways.{AreReached, AreWalked, IsEnd, IsNaming, IsNamingFor, IsNearest};
 
 use crate::naming::{Naming, possible_at, value_at};
 use crate::node::Pair;
@@ -33,6 +33,7 @@ pub struct Witness {
 pub(crate) fn usual_codes(alloc: Global, naming: &Naming) -> Result<Option<Vec<Code>>, Memory>
     ensures none { IfOk result (λ some. IfNone some ((a : Assignment) → IsPossible naming.now.possible.items a → ⊥)) }
     ensures some { IfOk result (λ some. IfSome some (λ codes. IsPossible naming.now.possible.items (by_code codes.items))) }
+    ensures first { IfOk result (λ some. IfSome some (λ codes. AreUsual naming.now.possible.items codes.items)) }
 {
     let mut codes = Vec::new(alloc);
     for name in 0..naming.possible.len() {
@@ -139,13 +140,15 @@ fn witness_to(
     index: usize,
 ) -> Result<Witness, Memory>
     requires usual { IsPossible pair.now.naming.now.possible.items (by_code usual.now) }
+    requires first { AreUsual pair.now.naming.now.possible.items usual.now }
+    requires naming { IsNaming pair.now.old.now pair.now.new.now pair.now.naming.now }
     requires reached { AreReached pair.now.old.now pair.now.new.now pair.now.naming.now.names.items pair.now.naming.now.possible.items nodes.now }
+    requires walked { AreWalked pair.now.old.now pair.now.new.now pair.now.naming.now nodes.now }
     requires end { (change : Change) × IsEnd pair.now.old.now pair.now.new.now nodes.now index change }
     ensures { (old_allows new_allows : Allowance) (partners : List (Option ℕ)) (change : Change)
-        → AreNames old_allows new_allows (modules_of pair.now.old.now) (modules_of pair.now.new.now) partners pair.now.naming.now.names.items
-        → ((a : Assignment) → IsPossible pair.now.naming.now.possible.items a
-        → IsKnown old_allows new_allows (modules_of pair.now.old.now) (modules_of pair.now.new.now) pair.now.naming.now.names.items a)
+        → IsNamingFor old_allows new_allows pair.now.old.now pair.now.new.now partners pair.now.naming.now
         → IsEnd pair.now.old.now pair.now.new.now nodes.now index change
+        → IsNearest pair.now.old.now pair.now.new.now pair.now.naming.now nodes.now.ways.items index change
         → IfOk result (IsWitness old_allows new_allows pair.now.old.now pair.now.new.now partners change) }
 {
     let trail = trail_to(alloc, &nodes.ways, index)?;
@@ -170,14 +173,16 @@ pub(crate) fn witness_at(
     index: Option<usize>,
 ) -> Result<Option<Witness>, Memory>
     requires usual { IsPossible pair.now.naming.now.possible.items (by_code usual.now) }
+    requires first { AreUsual pair.now.naming.now.possible.items usual.now }
+    requires naming { IsNaming pair.now.old.now pair.now.new.now pair.now.naming.now }
     requires reached { AreReached pair.now.old.now pair.now.new.now pair.now.naming.now.names.items pair.now.naming.now.possible.items nodes.now }
+    requires walked { AreWalked pair.now.old.now pair.now.new.now pair.now.naming.now nodes.now }
     requires end { (k : ℕ) → index ≡ Some k → (change : Change) × IsEnd pair.now.old.now pair.now.new.now nodes.now k change }
     ensures none { IfOk result (λ some. some ≡ None → index ≡ None) }
     ensures witness { (old_allows new_allows : Allowance) (partners : List (Option ℕ)) (change : Change)
-        → AreNames old_allows new_allows (modules_of pair.now.old.now) (modules_of pair.now.new.now) partners pair.now.naming.now.names.items
-        → ((a : Assignment) → IsPossible pair.now.naming.now.possible.items a
-        → IsKnown old_allows new_allows (modules_of pair.now.old.now) (modules_of pair.now.new.now) pair.now.naming.now.names.items a)
+        → IsNamingFor old_allows new_allows pair.now.old.now pair.now.new.now partners pair.now.naming.now
         → ((k : ℕ) → index ≡ Some k → IsEnd pair.now.old.now pair.now.new.now nodes.now k change)
+        → ((k : ℕ) → index ≡ Some k → IsNearest pair.now.old.now pair.now.new.now pair.now.naming.now nodes.now.ways.items k change)
         → IfOk result (λ some. IfSome some (IsWitness old_allows new_allows pair.now.old.now pair.now.new.now partners change)) }
 {
     match index {

@@ -1,10 +1,11 @@
 -- What the events of a walk come to.
 use Rattle.std.proofs.Common.{◌≡◌, ◌+◌, ℕ, Bool, true, false, cond, eqb, fold, List, [], ◌∷◌, ◌++◌, Option, Some, None, append-nil, append_assoc, ap}
 use Rattle.std.proofs.Common.{refl, ◌∙◌, sym}
+use Rattle.std.specs.Option.{option_map_or}
 use Rattle.std.proofs.lemmas.Bool.{false≢true}
-use Rattle.pam_conf.specs.inner.Progress.{Account, Count, account, ended_by, with_fault, with_follow, with_module}
+use Rattle.pam_conf.specs.inner.Progress.{Account, Count, account, ended_by, ending, with_fault, with_follow, with_module}
 use Rattle.pam_conf.specs.Stack.{Items}
-use Rattle.pam_conf.specs.Survey.{SurveyText, is_over, survey_of, targets, told, with_file}
+use Rattle.pam_conf.specs.Survey.{SurveyText, is_over, one_too_many, survey_of, targets, told, with_file}
 use Rattle.pam_conf.specs.Walk.{Event, Met, Followed, Failed, Walk, fault_at, numbered, refusal}
 use Rattle.pam_conf.specs.declared.conf_error.ConfError.{ConfError}
 use Rattle.pam_conf.specs.declared.error.FaultKind.TheVariants.{TooManyFollowed, TooManyModules}
@@ -18,7 +19,7 @@ outcome noted reached None = record { faults = noted; reached = reached; ended =
 outcome noted reached (Some fault) = record { faults = noted ++ fault ∷ []; reached = reached; ended = true }
 
 pub account-refusal : (n : Count) (events : List Event) → account false n events ≡ outcome n.noted n.reached (refusal n.modules n.follows events)
-unfolding account refusal
+unfolding account ending refusal
 account-refusal n [] = refl
 account-refusal n (Met file line ∷ events) =
     elim (eqb n.modules MAX_MODULES) as (λ (t : Bool). cond t (ended_by n (fault_at file line TooManyModules)) (account false (with_module n) events)
@@ -64,7 +65,7 @@ surveyed_on n events = record {
 }
 
 pub account-told : (n : Count) (events : List Event) → account true n events ≡ surveyed_on n events
-unfolding account told targets is_over
+unfolding account ending told targets is_over
 account-told n [] = rw (append-nil n.noted) refl
 account-told n (Met file line ∷ events) =
     elim (eqb n.modules MAX_MODULES) as (λ (t : Bool). cond t (ended_by n (fault_at file line TooManyModules)) (account true (with_module n) events) ≡ record {
@@ -80,8 +81,17 @@ account-told n (Followed file line target ∷ events) =
       ended = cond t true (is_over n.modules (n.follows + 1) events);
     }) [ true ↦ refl | false ↦ account-told (with_follow true target n) events ]
 account-told n (Failed fault ∷ events) =
-    account-told (with_fault fault n) events
-    ∙ ap (λ faults. record (surveyed_on n events) { faults = faults }) (append_assoc n.noted (fault ∷ []) (told n.modules n.follows events))
+    elim (eqb n.follows MAX_FOLLOWS) as (λ (t : Bool).
+    option_map_or (ended_by n) (cond t (Some (one_too_many fault)) None) (account true (with_fault fault n) events) ≡ record {
+      faults = n.noted ++ cond t (one_too_many fault ∷ []) (fault ∷ told n.modules (n.follows + 1) events);
+      reached = fold with_file n.reached (cond t [] (targets n.modules (n.follows + 1) events));
+      ended = cond t true (is_over n.modules (n.follows + 1) events);
+    }) [
+      | true ↦ refl
+      | false ↦ account-told (with_fault fault n) events
+          ∙ ap (λ faults. record (surveyed_on (with_fault fault n) events) { faults = faults })
+          (append_assoc n.noted (fault ∷ []) (told n.modules (n.follows + 1) events))
+    ]
 
 abbrev with_items : Option Items → Account → SurveyText
 with_items items a = record { items = items; faults = a.faults; reached = a.reached; other_answers = false }

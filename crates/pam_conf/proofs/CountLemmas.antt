@@ -4,6 +4,7 @@ use Rattle.std.proofs.Common.{refl, arith}
 use Rattle.std.proofs.lemmas.Bool.{cond_both, eqb-false}
 use Rattle.std.specs.List.{list_any}
 use Rattle.pam_conf.specs.Files.{Folder, position_of}
+use Rattle.pam_conf.specs.Laws.{modules_met as met}
 use Rattle.pam_conf.specs.Rule.{RuleText, RuleBody, Module, Include, Sub}
 use Rattle.pam_conf.specs.Stack.{module_count}
 use Rattle.pam_conf.specs.Walk.{Reads, Walk, Event, Met, Followed, Failed, Deeper, walk, refusal, target_walk, include_walk, sub_walk, body_walk, rules_walk}
@@ -16,13 +17,6 @@ use Rattle.pam_conf.specs.declared.rule.Kind.{Kind}
 use Rattle.pam_conf.specs.declared.stack.TheConstants.{MAX_MODULES}
 use Rattle.pam_conf.specs.declared.walk.TheConstants.{MAX_FOLLOWS}
 use Rattle.pam_conf.proofs.StackTree.{module_count-joined}
-
--- the modules among events
-abbrev met : List Event → ℕ
-met [] = 0
-met (Met file line ∷ events) = met events + 1
-met (Followed file line target ∷ events) = met events
-met (Failed fault ∷ events) = met events
 
 met-append : (xs ys : List Event) → met (xs ++ ys) ≡ met xs + met ys
 met-append [] ys = omega arith

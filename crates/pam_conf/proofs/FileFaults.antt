@@ -13,9 +13,10 @@ use Rattle.pam_text.specs.Source.{source_fault}
 use Rattle.pam_text.specs.Text.{text_of, lines_of}
 use Rattle.pam_text.specs.declared.source.SourceFault.{SourceFault}
 use Rattle.pam_conf.specs.FileRules.{LineResult, faults_among, file_results, good_rules, line_results, own_faults, rules_among, unless_faulty}
+use Rattle.pam_conf.specs.inner.ByKind.{indices_of}
 use Rattle.pam_conf.specs.inner.FileRules.{file_text, files_read}
 use Rattle.pam_conf.specs.Files.{Folder, Named, bytes_at}
-use Rattle.pam_conf.specs.inner.FilesRead.{file_view}
+use Rattle.pam_conf.specs.inner.FilesRead.{IsIndexed, by_kind_view, file_view}
 use Rattle.pam_conf.specs.inner.Kept.{kept_view}
 use Rattle.pam_conf.specs.Laws.{FirstFaultOrRules}
 use Rattle.pam_conf.specs.Lines.{fault_of_source, onto_rules, rules_in, rules_of}
@@ -75,7 +76,7 @@ pub read_at : (folder : Folder) (files : List FileRules) (position : ℕ) → ma
 read_at folder files position read =
     sym (slice_get-map file_view files position) ∙ ap (λ xs. slice_get xs position) read ∙ slice_get-map (file_text folder.form) folder.entries position
 
-lent : (files : List FileRules) (position : ℕ) (found : Option (Bor FileRules)) → IsItemAt files position found →
+pub lent : {X : Type 0} (files : List X) (position : ℕ) (found : Option (Bor X)) → IsItemAt files position found →
     option_map (λ b. b.now) found ≡ slice_get files position
 lent files position None h = sym (slice_get_past files position h.3)
 lent files position (Some file) h = sym (slice_get_read files (length files) position file.now refl h.3.0 h.1)
@@ -110,13 +111,14 @@ module _ (folder seen : Folder) (files slice : List FileRules) (position : ℕ) 
 -- one more file is read
 pub read_next : (folder : Folder) (files : List FileRules) (file : FileRules) (k : ℕ) (bytes : List ℕ) → k < length folder.entries →
     map file_view files ≡ map (file_text folder.form) (take k folder.entries) → bytes ≡ unwrap_or (bytes_at k folder.entries) [] →
-    map kept_view file.rules.items ≡ good_rules folder.form bytes → file.faults.items ≡ own_faults folder.form bytes →
+    map kept_view file.rules.items ≡ good_rules folder.form bytes → file.faults.items ≡ own_faults folder.form bytes → IsIndexed file →
     map file_view (files ++ file ∷ []) ≡ map (file_text folder.form) (take (k + 1) folder.entries)
-read_next folder files file k bytes within before is rules faults =
+read_next folder files file k bytes within before is rules faults indexed =
     let entry : Named = get_or folder.entries k ([], []) in
     let there : slice_get folder.entries k ≡ Some entry = slice_get-get_or folder.entries k ([], []) within in
     let same : bytes ≡ entry.1 = is ∙ ap (λ o. unwrap_or (option_map (λ f. f.1) o) []) there in
-    let new : file_view file ≡ file_text folder.form entry = rw (rules, faults, same) refl in
+    let by_kind : by_kind_view file.by_kind ≡ indices_of (good_rules folder.form bytes) = indexed ∙ ap indices_of rules in
+    let new : file_view file ≡ file_text folder.form entry = rw (by_kind, rules, faults, same) refl in
     map-append file_view files (file ∷ [])
     ∙ ap (λ texts. texts ++ file_view file ∷ []) before
     ∙ ap (λ text. map (file_text folder.form) (take k folder.entries) ++ text ∷ []) new

@@ -6,7 +6,7 @@ use Rattle.std.specs.Option.{unwrap_or}
 use Rattle.std.proofs.lemmas.List.{map-append}
 use Rattle.pam_conf.specs.FileRules.{good_rules}
 use Rattle.pam_conf.specs.Files.{Folder, bytes_at, position_of}
-use Rattle.pam_conf.specs.Laws.{ListIsOfWalk, items_listed, listed_item}
+use Rattle.pam_conf.specs.Laws.{ListIsOfWalk, Unfailed, items_listed, listed_item}
 use Rattle.pam_conf.specs.Listed.{Further, body_listed, file_listed, included, rule_listed, rules_listed}
 use Rattle.pam_conf.specs.Rule.{RuleText, RuleBody, Module, Include, Sub}
 use Rattle.pam_conf.specs.Stack.{Items, End, ThenModule, ThenSub, joined, module_count}
@@ -18,7 +18,7 @@ use Rattle.pam_conf.specs.declared.error.FaultKind.TheVariants.{Cycle, TooDeep}
 use Rattle.pam_conf.specs.declared.rule.Kind.{Kind}
 use Rattle.pam_conf.specs.declared.trail.TheConstants.{MAX_OPEN_FILES}
 use Rattle.pam_conf.specs.declared.walk.Location.{Location}
-use Rattle.pam_conf.proofs.SameWalks.{Unfailed, unfailed_parts}
+use Rattle.pam_conf.proofs.SameWalks.{unfailed_parts}
 use Rattle.pam_conf.proofs.SoundSurveys.{none-fine, told-none}
 
 items_joined : (one other : Items) → items_listed (joined one other) ≡ items_listed one ++ items_listed other

@@ -5,6 +5,7 @@ use Rattle.std.specs.List.{AllByRecursion as Each, list_any}
 use Rattle.std.specs.Option.{unwrap_or}
 use Rattle.pam_conf.specs.FileRules.{good_rules, unless_faulty}
 use Rattle.pam_conf.specs.Files.{Folder, bytes_at, position_of}
+use Rattle.pam_conf.specs.Laws.{Unfailed}
 use Rattle.pam_conf.specs.Rule.{RuleText, RuleBody, Module, Include, Sub}
 use Rattle.pam_conf.specs.Survey.{faults_at, good_at}
 use Rattle.pam_conf.specs.Walk.{Walk, Event, Met, Followed, Failed, Deeper, Reads, ◌then◌, nothing, walk, target_walk, include_walk, sub_walk, body_walk}
@@ -131,12 +132,6 @@ module _ (folder : Folder) (reads others : Reads) (kind : Kind) (service : Optio
       file-agree (Some (walk folder reads kind service room)) (Some (walk folder others kind service room)) (walk-agree room) trail file same h
 
 -- A WALK WITHOUT A FAULT
-
-abbrev pub Unfailed : List Event → Type 0
-Unfailed [] = Unit {0}
-Unfailed (Met file line ∷ events) = Unfailed events
-Unfailed (Followed file line target ∷ events) = Unfailed events
-Unfailed (Failed fault ∷ events) = ⊥
 
 pub unfailed_parts : (xs ys : List Event) → Unfailed (xs ++ ys) → Unfailed xs × Unfailed ys
 unfailed_parts [] ys h = (tt, h)

@@ -8,12 +8,13 @@ use Rattle.std.specs.Option.{option_map_or}
 use Rattle.std.proofs.lemmas.Bool.{eqb-true, false≢true}
 use Rattle.std.proofs.lemmas.List.Elements.{All-from_recursion, recursion_from_All}
 use Rattle.pam_conf.specs.Files.{Folder, position_of}
-use Rattle.pam_conf.specs.Laws.{FaultlessHasStack, StackIsSoundSurvey}
+use Rattle.pam_conf.specs.Laws.{FaultlessHasStack, StackIsSoundSurvey, Unfailed}
 use Rattle.pam_conf.specs.inner.Progress.{in_file}
 use Rattle.pam_conf.specs.Resolution.{StartText, carried, from_starts, resolved, stack_from, start_in, start_of, start_read, unless_empty}
 use Rattle.pam_conf.specs.Rule.{RuleText}
 use Rattle.pam_conf.specs.Stack.{Items, End, ThenModule, ThenSub}
-use Rattle.pam_conf.specs.Survey.{SurveyText, good_at, is_over, survey_from, survey_of, survey_starts, survey_unless_empty, surveyed, targets, told, with_file}
+use Rattle.pam_conf.specs.Survey.{SurveyText, good_at, is_over, one_too_many, survey_from, survey_of, survey_starts, survey_unless_empty, surveyed, targets}
+use Rattle.pam_conf.specs.Survey.{told, with_file}
 use Rattle.pam_conf.specs.Walk.{Walk, Event, Met, Followed, Failed, fault_at, numbered, refusal, rules_at, walk}
 use Rattle.pam_conf.specs.declared.conf_error.ConfError.{ConfError}
 use Rattle.pam_conf.specs.declared.error.FaultKind.TheVariants.{TooManyFollowed, TooManyModules}
@@ -25,7 +26,7 @@ use Rattle.pam_conf.specs.declared.stack.TheConstants.{MAX_MODULES}
 use Rattle.pam_conf.specs.declared.trail.TheConstants.{MAX_OPEN_FILES}
 use Rattle.pam_conf.specs.declared.walk.TheConstants.{MAX_FOLLOWS}
 use Rattle.pam_conf.proofs.ResolutionLemmas.{faulty, start-fault}
-use Rattle.pam_conf.proofs.SameWalks.{Sound, Unfailed, each_both, each_map, each_parts, reads-sound, sound-reads, targets_of, walk-agree, walk-sound}
+use Rattle.pam_conf.proofs.SameWalks.{Sound, each_both, each_map, each_parts, reads-sound, sound-reads, targets_of, walk-agree, walk-sound}
 
 -- EVENTS WITHOUT A FAULT
 
@@ -60,7 +61,9 @@ told-none m f (Followed file line target ∷ events) none =
     elim (eqb f MAX_FOLLOWS) as (λ (t : Bool). cond t (fault_at file line TooManyFollowed ∷ []) (told m (f + 1) events) ≡ [] →
     cond t (Some (fault_at file line TooManyFollowed)) (refusal m (f + 1) events) ≡ None)
     [ true ↦ λ e. absurd (cc) | false ↦ λ e. told-none m (f + 1) events e ] none
-told-none m f (Failed fault ∷ events) none = absurd (cc)
+told-none m f (Failed fault ∷ events) none =
+    elim (eqb f MAX_FOLLOWS) as (λ (t : Bool). cond t (one_too_many fault ∷ []) (fault ∷ told m (f + 1) events) ≡ [] → Some fault ≡ None)
+    [ true ↦ λ e. absurd (cc) | false ↦ λ e. absurd (cc) ] none
 
 -- FILES, EACH ONCE
 

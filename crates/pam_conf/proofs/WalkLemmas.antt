@@ -9,7 +9,7 @@ use Rattle.std.proofs.Math.Seq.{drop-cons}
 use Rattle.std.proofs.lemmas.Option.{cond_some}
 use Rattle.std.proofs.lemmas.Bool.{and_parts, false≢true, ne_eqb, ltb-true}
 use Rattle.pam_conf.specs.Files.{Folder, position_of}
-use Rattle.pam_conf.specs.inner.Progress.{Count, Passes, Refuses, IsRead, account, ended_by, of_kind, only, in_file, with_fault, with_follow}
+use Rattle.pam_conf.specs.inner.Progress.{Count, Passes, Refuses, IsRead, account, ended_by, ending, of_kind, only, in_file, with_fault, with_follow}
 use Rattle.pam_conf.specs.Tells.{UnlessMemory}
 use Rattle.pam_conf.specs.inner.Kept.{kept_view}
 use Rattle.pam_conf.specs.Rule.{RuleText}
@@ -133,38 +133,31 @@ module _ (folder : Folder) (reads : Reads) (kind : Kind) (service : Option (List
       rw (some, absent, room) refl
 
   -- a fault that is noted leads on; one that is not ends the walk
-  pub fault-noted : (on : Bool) (n n' : Count) (i : Items) (file line : ℕ) (found : Result (ℕ × Walk) FaultKind) (fault : FaultKind) (e : ConfError) →
-      found ≡ Err fault → e ≡ fault_at file line fault → on ≡ true → n' ≡ with_fault e n →
+  fault-noted : (on : Bool) (n n' : Count) (i : Items) (file line : ℕ) (found : Result (ℕ × Walk) FaultKind) (fault : FaultKind) → found ≡ Err fault →
+      ending on n (fault_at file line fault) ≡ None → n' ≡ with_fault (fault_at file line fault) n →
       IsErrAnd found (λ fault. Passes on n i (failed (fault_at file line fault)) n' i)
   unfolding account
-  fault-noted on n n' i file line found fault e is same goes new = rw (is, goes, new, same) record {
-    accounted = λ rest. refl;
+  fault-noted on n n' i file line found fault is goes new = rw (is, new) record {
+    accounted = λ rest. rw goes refl;
     counted = omega arith;
     added = sym (joined-End i);
   }
 
-  pub fault-ends : (on : Bool) (n n' : Count) (file line : ℕ) (found : Result (ℕ × Walk) FaultKind) (fault : FaultKind) (e met : ConfError) →
-      found ≡ Err fault → met ≡ fault_at file line fault →
-      UnlessMemory e e.kind ((on ≡ false) × (e ≡ met) × (n' ≡ n)) →
-      Refuses on n (include_walk file line found) n' e
+  fault-ends : (on : Bool) (n n' : Count) (file line : ℕ) (found : Result (ℕ × Walk) FaultKind) (fault : FaultKind) (e : ConfError) → found ≡ Err fault →
+      UnlessMemory e e.kind ((ending on n (fault_at file line fault) ≡ Some e) × (n' ≡ n)) → Refuses on n (include_walk file line found) n' e
   unfolding account
-  fault-ends on n n' file line found fault e met is same =
-      unless-weaker e e.kind (λ h rest. let at : fault_at file line fault ≡ e = sym same ∙ sym h.1 in rw (is, at, h.0, h.2) refl)
+  fault-ends on n n' file line found fault e is = unless-weaker e e.kind (λ h rest. rw (is, h.0, h.1) refl)
 
-  -- what is done about a fault, where notes are the faults so far
-  pub meets : (on : Bool) (n : Count) (i : Items) (file line : ℕ) (found : Result (ℕ × Walk) FaultKind) (fault : FaultKind) (met : ConfError)
-      (result : Result (Option ℕ) ConfError) (notes : List ConfError) → found ≡ Err fault → met ≡ fault_at file line fault →
-      IfOk result (λ o. (o ≡ None) × (on ≡ true) × (notes ≡ n.noted ++ met ∷ [])) →
-      IfErr result (λ e. UnlessMemory e e.kind ((on ≡ false) × (e ≡ met) × (notes ≡ n.noted))) →
-      MatchResult result (λ o. MatchOption o (IsErrAnd found (λ fault. Passes on n i (failed (fault_at file line fault)) (record n { noted = notes }) i))
-      (λ position. IsOkAnd found (λ t. (t.0 ≡ position) × Passes on n i (followed file line t) (record n { noted = notes }) i)))
-      (λ e. Refuses on n (include_walk file line found) (record n { noted = notes }) e)
-  meets on n i file line found fault met (Ok o) notes is same ok err =
-      rw ok.0 (fault-noted on n (record n { noted = notes }) i file line found fault met is same ok.1
-      (ap (λ (noted : List ConfError). record n { noted = noted }) ok.2))
-  meets on n i file line found fault met (Err e) notes is same ok err =
-      fault-ends on n (record n { noted = notes }) file line found fault e met is same
-      (unless-weaker e e.kind (λ h. (h.0, h.1, ap (λ (noted : List ConfError). record n { noted = noted }) h.2)) err)
+  -- what is done about a fault
+  pub meets : (on : Bool) (n n' : Count) (i : Items) (file line : ℕ) (found : Result (ℕ × Walk) FaultKind) (fault : FaultKind)
+      (result : Result (Option ℕ) ConfError) → found ≡ Err fault →
+      IfOk result (λ o. (o ≡ None) × (ending on n (fault_at file line fault) ≡ None) × (n' ≡ with_fault (fault_at file line fault) n)) →
+      IfErr result (λ e. UnlessMemory e e.kind ((ending on n (fault_at file line fault) ≡ Some e) × (n' ≡ n))) →
+      MatchResult result (λ o. MatchOption o (IsErrAnd found (λ fault. Passes on n i (failed (fault_at file line fault)) n' i))
+      (λ position. IsOkAnd found (λ t. (t.0 ≡ position) × Passes on n i (followed file line t) n' i)))
+      (λ e. Refuses on n (include_walk file line found) n' e)
+  meets on n n' i file line found fault (Ok o) is ok err = rw ok.0 (fault-noted on n n' i file line found fault is ok.1 ok.2)
+  meets on n n' i file line found fault (Err e) is ok err = fault-ends on n n' file line found fault e is err
 
   passes-followed : (on : Bool) (n n' : Count) (file line target : ℕ) (i i' : Items) (w : Walk) → (n.follows ≡ MAX_FOLLOWS → ⊥) →
       Passes on (with_follow on target n) i w n' i' → Passes on n i (followed file line (target, w)) n' i'
@@ -285,7 +278,7 @@ module _ (folder : Folder) (reads : Reads) (kind : Kind) (service : Option (List
   read_refused : (on : Bool) (n : Count) (d : Deeper) (trail : List ℕ) (file : ℕ) (r : Result (List RuleText) RuleFault) (e : ConfError) →
       on ≡ false → in_file file (of_kind kind r) ≡ Err e → (rest : List Event) →
       account on n ((read_walk folder reads kind service d trail file r).events ++ rest) ≡ ended_by n e
-  unfolding account
+  unfolding account ending
   read_refused on n d trail file (Ok all) e ends h rest = absurd (cc)
   read_refused on n d trail file (Err fault) e ends h rest = let same : fault_at file fault.line fault.kind ≡ e = cc in rw (ends, same) refl
 

@@ -1,5 +1,6 @@
 -- Laws of the definitions, in the words of pam.conf(5).
-use Rattle.std.specs.Prelude.{All, IsSome, ◌≡◌, ◌↔◌, ◌-◌, ◌==◌, ◌≤◌, ℕ, nat_lt, false, List, [], ◌∷◌, length, map, if◌then◌else◌, Option, Some, None, Ok, Err}
+use Rattle.std.specs.Prelude.{All, IsSome, ◌≡◌, ◌↔◌, ◌+◌, ◌-◌, ◌==◌, ◌≤◌, ℕ, nat_lt, false, List, [], ◌∷◌, ◌++◌, length, map}
+use Rattle.std.specs.Prelude.{if◌then◌else◌, Option, Some, None, Ok, Err}
 use Rattle.std.specs.List.{list_any}
 use Rattle.pam_codes.specs.declared.action.Action.{Action}
 use Rattle.pam_conf.specs.FileRules.{good_rules, own_faults, unless_faulty}
@@ -8,14 +9,15 @@ use Rattle.pam_conf.specs.Lines.{rules_of}
 use Rattle.pam_conf.specs.Resolution.{items_or_fault, resolved, stack_from}
 use Rattle.pam_conf.specs.Listed.{ListedText, listed}
 use Rattle.pam_conf.specs.Stack.{IsNumbered, Items, End, ThenModule, ThenSub, depth, module_count}
-use Rattle.pam_conf.specs.Survey.{SurveyText, faults_at, survey_from, surveyed}
-use Rattle.pam_conf.specs.Walk.{Deeper, Reads, Walk, file_walk, rules_at, target_walk, walk}
+use Rattle.pam_conf.specs.Survey.{SurveyText, faults_at, survey_from, surveyed, told}
+use Rattle.pam_conf.specs.Walk.{Deeper, Event, Failed, Followed, Met, Reads, Walk, fault_at, file_walk, refusal, rules_at, target_walk, walk}
 use Rattle.pam_conf.specs.Words.{IsSplit, words_of}
-use Rattle.pam_conf.specs.declared.error.FaultKind.TheVariants.{TooDeep}
+use Rattle.pam_conf.specs.declared.error.FaultKind.TheVariants.{TooDeep, TooManyFollowed, TooManyModules}
 use Rattle.pam_conf.specs.declared.rule.Form.{Form}
 use Rattle.pam_conf.specs.declared.rule.Kind.{Kind}
 use Rattle.pam_conf.specs.declared.stack.TheConstants.{MAX_MODULES}
 use Rattle.pam_conf.specs.declared.trail.TheConstants.{MAX_OPEN_FILES}
+use Rattle.pam_conf.specs.declared.walk.TheConstants.{MAX_FOLLOWS}
 
 -- WORDS
 
@@ -49,11 +51,65 @@ abbrev pub WalkFollowsItsTrail : Type 0
 WalkFollowsItsTrail = (folder : Folder) (reads : Reads) (kind : Kind) (service : Option (List ℕ)) (trail : List ℕ) (file : ℕ) →
     trail_walk folder reads kind service trail file ≡ file_walk folder reads kind service (one_more folder reads kind service trail) trail file
 
--- a target that exists and is not open is too deep if and only if `MAX_OPEN_FILES` files are open
+-- a target that exists and is not open is too deep if and only if 16 files are open
 abbrev pub DeepWhereAllAreOpen : Type 0
 DeepWhereAllAreOpen = (folder : Folder) (reads : Reads) (kind : Kind) (service : Option (List ℕ)) (trail : List ℕ) (target : ℕ) →
     list_any (λ p. p == target) trail ≡ false →
-    (target_walk (one_more folder reads kind service trail) trail (Some target) ≡ Err TooDeep) ↔ (MAX_OPEN_FILES ≤ length trail)
+    (target_walk (one_more folder reads kind service trail) trail (Some target) ≡ Err TooDeep) ↔ (16 ≤ length trail)
+
+-- THE LIMITS, by their numbers
+
+abbrev pub MostModules : Type 0
+MostModules = MAX_MODULES ≡ 256
+
+abbrev pub MostFollows : Type 0
+MostFollows = MAX_FOLLOWS ≡ 256
+
+abbrev pub MostOpenFiles : Type 0
+MostOpenFiles = MAX_OPEN_FILES ≡ 16
+
+-- a walk meets no fault
+abbrev pub Unfailed : List Event → Type 0
+Unfailed [] = Unit {0}
+Unfailed (Failed fault ∷ events) = ⊥
+Unfailed (Met file line ∷ events) = Unfailed events
+Unfailed (Followed file line target ∷ events) = Unfailed events
+
+-- the modules that it meets
+abbrev pub modules_met : List Event → ℕ
+modules_met [] = 0
+modules_met (Met file line ∷ events) = modules_met events + 1
+modules_met (Followed file line target ∷ events) = modules_met events
+modules_met (Failed fault ∷ events) = modules_met events
+
+-- the includes and substacks that it follows
+abbrev pub follows_made : List Event → ℕ
+follows_made [] = 0
+follows_made (Met file line ∷ events) = follows_made events
+follows_made (Followed file line target ∷ events) = follows_made events + 1
+follows_made (Failed fault ∷ events) = follows_made events
+
+-- a walk without a fault, with at most 256 modules and at most 256 follows
+abbrev pub IsWithin : List Event → Type 0
+IsWithin events = Unfailed events × (modules_met events ≤ 256) × (follows_made events ≤ 256)
+
+-- it is not refused
+abbrev pub WithinIsAllowed : Type 0
+WithinIsAllowed = (events : List Event) → IsWithin events → refusal 0 0 events ≡ None
+
+-- the 257th module is refused, whatever comes after it
+abbrev pub NextModuleIsRefused : Type 0
+NextModuleIsRefused = (before after : List Event) (file line : ℕ) → IsWithin before → modules_met before ≡ 256 →
+    refusal 0 0 (before ++ Met file line ∷ after) ≡ Some (fault_at file line TooManyModules)
+
+-- so is the 257th follow
+abbrev pub NextFollowIsRefused : Type 0
+NextFollowIsRefused = (before after : List Event) (file line target : ℕ) → IsWithin before → follows_made before ≡ 256 →
+    refusal 0 0 (before ++ Followed file line target ∷ after) ≡ Some (fault_at file line TooManyFollowed)
+
+-- a walk that goes on after faults tells at most 257
+abbrev pub FaultsAreFew : Type 0
+FaultsAreFew = (events : List Event) → length (told 0 0 events) ≤ 257
 
 -- THE STACK OF A SERVICE
 

@@ -9,6 +9,7 @@ pub mod ListedText
 pub mod Remaining
 pub mod Resolution
 pub mod Rule
+pub mod Services
 pub mod Stack
 pub mod Survey
 pub mod SurveyText

@@ -23,28 +23,34 @@ good_at folder file = Ok (good_rules folder.form (unwrap_or (bytes_at file folde
 abbrev pub faults_at : Folder → ℕ → List RuleFault
 faults_at folder file = own_faults folder.form (unwrap_or (bytes_at file folder.entries) [])
 
--- THE FAULTS OF A WALK, which goes on after each but a module or a follow past its limit, which ends it
+-- the fault of one include or substack too many, in the place of that of its target
+abbrev pub one_too_many : ConfError → ConfError
+one_too_many fault = record fault { kind = TooManyFollowed }
+
+-- THE FAULTS OF A WALK, which goes on after each; but one module too many ends it, and so does one include or substack too many,
+-- where those whose target has a fault count too
 unfoldable pub told : ℕ → ℕ → List Event → List ConfError
 told modules follows [] = []
 told modules follows (Met file line ∷ events) =
     if modules == MAX_MODULES then fault_at file line TooManyModules ∷ [] else told (modules + 1) follows events
 told modules follows (Followed file line target ∷ events) =
     if follows == MAX_FOLLOWS then fault_at file line TooManyFollowed ∷ [] else told modules (follows + 1) events
-told modules follows (Failed fault ∷ events) = fault ∷ told modules follows events
+told modules follows (Failed fault ∷ events) =
+    if follows == MAX_FOLLOWS then one_too_many fault ∷ [] else fault ∷ told modules (follows + 1) events
 
 -- the files that it follows until then
 unfoldable pub targets : ℕ → ℕ → List Event → List ℕ
 targets modules follows [] = []
 targets modules follows (Met file line ∷ events) = if modules == MAX_MODULES then [] else targets (modules + 1) follows events
 targets modules follows (Followed file line target ∷ events) = if follows == MAX_FOLLOWS then [] else target ∷ targets modules (follows + 1) events
-targets modules follows (Failed fault ∷ events) = targets modules follows events
+targets modules follows (Failed fault ∷ events) = if follows == MAX_FOLLOWS then [] else targets modules (follows + 1) events
 
 -- whether a limit ends it
 unfoldable pub is_over : ℕ → ℕ → List Event → Bool
 is_over modules follows [] = false
 is_over modules follows (Met file line ∷ events) = if modules == MAX_MODULES then true else is_over (modules + 1) follows events
 is_over modules follows (Followed file line target ∷ events) = if follows == MAX_FOLLOWS then true else is_over modules (follows + 1) events
-is_over modules follows (Failed fault ∷ events) = is_over modules follows events
+is_over modules follows (Failed fault ∷ events) = if follows == MAX_FOLLOWS then true else is_over modules (follows + 1) events
 
 -- files, each once, and one more
 abbrev pub with_file : List ℕ → ℕ → List ℕ

@@ -1,4 +1,5 @@
 -- What no public contract cites.
+pub mod ByKind
 pub mod Calls
 pub mod FileRules
 pub mod FilesRead
@@ -6,6 +7,7 @@ pub mod FirstWord
 pub mod ItemsOf
 pub mod Kept
 pub mod Lines
+pub mod NameList
 pub mod Owned
 pub mod Progress
 pub mod StackCode

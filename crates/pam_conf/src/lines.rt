@@ -7,16 +7,21 @@ ghost use Rattle.pam_codes.specs.Tokens.{is_blank};
 ghost use Rattle.pam_text.specs.Left.{text_left};
 ghost use Rattle.pam_text.specs.Text.{text_of, lines_of};
 ghost use Rattle.pam_text.specs.Gives.{Gives};
-ghost use Rattle.pam_conf.specs.Tells.{FaultTells};
+ghost use Rattle.pam_conf.specs.Tells.{ErrorTells, FaultTells};
 ghost use Rattle.pam_conf.specs.inner.Tells.{KindTells};
 ghost use Rattle.pam_conf.specs.FileRules.{line_results};
 ghost use Rattle.pam_conf.specs.inner.Kept.{kept_view};
 ghost use Rattle.pam_conf.specs.Lines.{at_line, fault_of_source, line_rule_of, rules_in, rules_of};
 ghost use Rattle.pam_conf.specs.inner.Lines.{fault_at as fault_at_line};
 ghost use Rattle.pam_conf.specs.Rule.{RuleText, rule_view};
+ghost use Rattle.pam_conf.specs.inner.Progress.{in_file};
+ghost use Rattle.pam_conf.specs.Walk.{rules_at};
 ghost use Rattle.pam_conf.specs.inner.Wanted.{with_rule, only_wanted, wants};
 
+use crate::conf_error::ConfError;
 use crate::error::{FaultKind, RuleFault};
+use crate::faults::fault_in;
+use crate::files::Files;
 use crate::kept::{KeptRule, whole_rules};
 use crate::rule::{Form, Rule, line_rule};
 use crate::wanted::{Wanted, is_unwanted, is_wanted};
@@ -47,6 +52,20 @@ pub(crate) fn wanted_rules(
         Ok(source) => text_rules(alloc, form, source, wanted),
         Err(fault) => Err(source_fault(fault)),
     }
+}
+
+/// Reads the wanted rules of the file at a position.
+pub(crate) fn file_rules(
+    alloc: Global,
+    files: &Files,
+    file: usize,
+    wanted: Wanted<'_>,
+) -> Result<Vec<KeptRule>, ConfError>
+    requires { file < length files.now.entries }
+    ensures { Gives ErrorTells (λ rules. map kept_view rules.items) result (in_file file (only_wanted wanted.entry (rules_at files.now file))) }
+{
+    let bytes = files.bytes(file).unwrap_or(b"");
+    wanted_rules(alloc, bytes, files.form(), wanted).map_err(|found| fault_in(file, found))
 }
 
 /// The fault of a file as a whole.

@@ -72,8 +72,10 @@ impl Lister<'_> {
         let Some(found) = rules.read.get(file) else {
             unreachable!()
         };
-        for rule in &found.rules {
-            self.list_rule(room, includes, file, rule, items)?;
+        for index in found.by_kind.indices(self.kind) {
+            if let Some(rule) = found.rules.get(*index) {
+                self.list_rule(room, includes, file, rule, items)?;
+            }
         }
         Ok(())
     }

@@ -16,11 +16,12 @@ use crate::conf_error::ConfError;
 use crate::error::FaultKind;
 use crate::files::Files;
 use crate::kept::{KeptRule, has_service};
+use crate::lines::file_rules;
 use crate::progress::Progress;
 use crate::rule::{Form, Kind, lower};
 use crate::stack::Stack;
 use crate::trail::Trail;
-use crate::walk::{Walker, file_rules};
+use crate::walk::Walker;
 use crate::wanted::Wanted;
 use std::alloc::{AllocError, Global};
 

@@ -6,12 +6,13 @@ ghost use Rattle.std.specs.Result.{result_transpose};
 ghost use Rattle.pam_text.specs.Text.{text_of, lines_of};
 ghost use Rattle.pam_conf.specs.FileRules.{faults_among, file_results, good_rules, line_results, own_faults, rules_among};
 ghost use Rattle.pam_conf.specs.Files.{bytes_at};
-ghost use Rattle.pam_conf.specs.inner.FilesRead.{file_view};
+ghost use Rattle.pam_conf.specs.inner.FilesRead.{IsIndexed, file_view};
 ghost use Rattle.pam_conf.specs.inner.Kept.{kept_view};
 ghost use Rattle.pam_conf.specs.Lines.{at_line, line_rule_of};
 ghost use Rattle.pam_conf.specs.Rule.{rule_view};
 ghost use Rattle.pam_conf.specs.Targets.{is_target, names_target};
 
+use crate::by_kind::ByKind;
 use crate::error::{FaultKind, RuleFault};
 use crate::files::Files;
 use crate::kept::{KeptBody, KeptRule, whole_rules};
@@ -26,30 +27,55 @@ use std::marker::Model;
 pub(crate) struct FileRules {
     pub rules: Vec<KeptRule>,
     pub faults: Vec<RuleFault>,
+    /// Which rules apply to each kind, so that a walk for one does not pass the others.
+    pub by_kind: ByKind,
 }
 
 impl FileRules {
+    /// A file without rules and faults. Does not allocate.
+    fn new(alloc: Global) -> FileRules
+        ensures rules { result.rules.items ≡ [] }
+        ensures faults { result.faults.items ≡ [] }
+        ensures by_kind { IsIndexed result }
+    {
+        FileRules {
+            rules: Vec::new(alloc),
+            faults: Vec::new(alloc),
+            by_kind: ByKind::new(alloc),
+        }
+    }
+
     /// Appends the rule of a line, or its fault, if it has one.
     fn take_line(&mut self, alloc: Global, form: Form, line: Line<'_>) -> Result<(), AllocError>
         ensures rules { OnOk result (let meant = result_transpose (at_line line.entry.number (line_rule_of form line.entry.number line.entry.bytes.now)) in
             map kept_view self.new.rules.items ≡ map kept_view self.old.rules.items ++ rules_among (cons_option meant [])) }
         ensures faults { OnOk result (let meant = result_transpose (at_line line.entry.number (line_rule_of form line.entry.number line.entry.bytes.now)) in
             self.new.faults.items ≡ self.old.faults.items ++ faults_among (cons_option meant [])) }
+        ensures by_kind { OnOk result (IsIndexed self.old → IsIndexed self.new) }
     {
         match numbered_rule(alloc, form, line) {
             Ok(None) => Ok(()),
-            Ok(Some(rule)) => {
-                self.rules.push(rule)?;
-                Ok(())
-            }
+            Ok(Some(rule)) => self.take_rule(rule),
             Err(fault) => self.take_fault(fault),
         }
+    }
+
+    /// Appends a rule.
+    fn take_rule(&mut self, rule: KeptRule) -> Result<(), AllocError>
+        ensures rules { OnOk result (map kept_view self.new.rules.items ≡ map kept_view self.old.rules.items ++ kept_view rule ∷ []) }
+        ensures faults { self.new.faults ≡ self.old.faults }
+        ensures by_kind { OnOk result (IsIndexed self.old → IsIndexed self.new) }
+    {
+        self.by_kind.add(&rule, self.rules.len())?;
+        self.rules.push(rule)?;
+        Ok(())
     }
 
     /// Appends a fault of a line. A failed allocation is no fault of the file.
     fn take_fault(&mut self, fault: RuleFault) -> Result<(), AllocError>
         ensures own { OnOk result (fault.kind ≡ FaultKind.Memory → ⊥) }
         ensures rules { self.new.rules ≡ self.old.rules }
+        ensures by_kind { self.new.by_kind ≡ self.old.by_kind }
         ensures faults { OnOk result (self.new.faults.items ≡ self.old.faults.items ++ fault ∷ []) }
     {
         match fault.kind {
@@ -66,13 +92,11 @@ impl FileRules {
 fn read_lines(alloc: Global, form: Form, source: Source<'_>) -> Result<FileRules, AllocError>
     ensures rules { IfOk result (λ f. map kept_view f.rules.items ≡ rules_among (line_results form (lines_of (text_of 1 source.entry.bytes.now)))) }
     ensures faults { IfOk result (λ f. f.faults.items ≡ faults_among (line_results form (lines_of (text_of 1 source.entry.bytes.now)))) }
+    ensures by_kind { IfOk result (λ f. IsIndexed f) }
 {
     let mut text = Text::of(source);
     let mut joined = Vec::new(alloc);
-    let mut file = FileRules {
-        rules: Vec::new(alloc),
-        faults: Vec::new(alloc),
-    };
+    let mut file = FileRules::new(alloc);
     while let Some(line) = next_filled_line(&mut text, &mut joined)? {
         if !is_blank_line(line.bytes) {
             file.take_line(alloc, form, line)?;
@@ -85,13 +109,11 @@ fn read_lines(alloc: Global, form: Form, source: Source<'_>) -> Result<FileRules
 fn faulty_file(alloc: Global, fault: RuleFault) -> Result<FileRules, AllocError>
     ensures rules { IfOk result (λ f. map kept_view f.rules.items ≡ rules_among (Err fault ∷ [])) }
     ensures faults { IfOk result (λ f. f.faults.items ≡ faults_among (Err fault ∷ [])) }
+    ensures by_kind { IfOk result (λ f. IsIndexed f) }
 {
-    let mut faults = Vec::new(alloc);
-    faults.push(fault)?;
-    Ok(FileRules {
-        rules: Vec::new(alloc),
-        faults,
-    })
+    let mut file = FileRules::new(alloc);
+    file.faults.push(fault)?;
+    Ok(file)
 }
 
 /// Reads a file.
@@ -99,6 +121,7 @@ fn faulty_file(alloc: Global, fault: RuleFault) -> Result<FileRules, AllocError>
 fn read_file(alloc: Global, form: Form, bytes: &[u8]) -> Result<FileRules, AllocError>
     ensures rules { IfOk result (λ f. map kept_view f.rules.items ≡ good_rules form bytes.now) }
     ensures faults { IfOk result (λ f. f.faults.items ≡ own_faults form bytes.now) }
+    ensures by_kind { IfOk result (λ f. IsIndexed f) }
 {
     match Source::of(bytes) {
         Ok(source) => read_lines(alloc, form, source),

@@ -26,8 +26,9 @@ pub struct Survey {
     /// The stack, as far as the rules without a fault give it: a target with a fault adds nothing. `None` if a limit ends the
     /// walk, or if neither the service nor `other` has rules.
     pub stack: Option<Stack>,
-    /// The faults of the walk in order; a file that is reached twice gives its faults twice. The first module or follow past its
-    /// limit is the last of them: the walk ends there.
+    /// The faults of the walk in order; a file that is reached twice gives its faults twice. The first module past its limit is the
+    /// last of them, and so is the first include or substack past its limit, where those whose target has a fault count too: the
+    /// walk ends there.
     pub faults: Vec<ConfError>,
     /// The positions of the files that the walk reached, in the order in which it came to them, each once.
     pub reached: Vec<usize>,

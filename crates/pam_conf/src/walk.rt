@@ -5,24 +5,26 @@ ghost use Rattle.std.specs.List.{list_any};
 ghost use Rattle.std.specs.Option.{option_map};
 ghost use Rattle.pam_conf.specs.Files.{position_of};
 ghost use Rattle.pam_conf.specs.ItemsOf.{items_of, module_text};
-ghost use Rattle.pam_conf.specs.inner.Progress.{GoesOn, HasRules, IsRead, IsTable, Passes, Refuses, count_of, deeper_in, file_walk, in_file, of_kind, reads_by};
+ghost use Rattle.pam_conf.specs.inner.Progress.{GoesOn, HasRules, IsRead, IsTable, Passes, Refuses, count_of, deeper_in, ending, file_walk, in_file, of_kind};
+ghost use Rattle.pam_conf.specs.inner.Progress.{reads_by, with_fault};
+ghost use Rattle.pam_conf.specs.inner.FilesRead.{kind_rules};
 ghost use Rattle.pam_conf.specs.inner.Calls.{arguments_in, control_in, path_in};
 ghost use Rattle.pam_conf.specs.inner.Kept.{call_words, kept_view};
 ghost use Rattle.pam_conf.specs.Tells.{ErrorTells, UnlessMemory};
 ghost use Rattle.pam_text.specs.Gives.{Gives};
 ghost use Rattle.pam_conf.specs.Survey.{with_file};
 ghost use Rattle.pam_conf.specs.Walk.{counts, failed, fault_at, followed, include_walk, rule_walk, rules_at, rules_walk, target_walk};
-ghost use Rattle.pam_conf.specs.inner.Wanted.{only_wanted};
 ghost use Rattle.pam_conf.specs.declared.stack.TheConstants.{MAX_MODULES};
 ghost use Rattle.pam_conf.specs.declared.trail.TheConstants.{MAX_OPEN_FILES};
 ghost use Rattle.pam_conf.specs.declared.walk.TheConstants.{MAX_FOLLOWS};
 
 use crate::call::Call;
 use crate::conf_error::ConfError;
-use crate::error::{FaultKind, RuleFault};
+use crate::error::FaultKind;
+use crate::faults::fault;
 use crate::files::Files;
 use crate::kept::{KeptBody, KeptRule, has_service, is_of};
-use crate::lines::wanted_rules;
+use crate::lines::file_rules;
 use crate::progress::{Progress, reach};
 use crate::rule::Kind;
 use crate::rule_files::FileRules;
@@ -31,7 +33,8 @@ use crate::trail::Trail;
 use crate::wanted::Wanted;
 use std::alloc::{AllocError, AllocFailed, Global};
 
-/// The maximum number of includes and substacks that a walk follows; one more is `TooManyFollowed`.
+/// The maximum number of includes and substacks that a walk follows; one more is `TooManyFollowed`. In a survey, which goes on after
+/// faults, one whose target has a fault counts too.
 pub const MAX_FOLLOWS: usize = 256;
 
 /// Where a rule is.
@@ -40,46 +43,6 @@ pub struct Location {
     /// The position of the file in `Files`.
     pub file: usize,
     pub line: usize,
-}
-
-/// A fault at a line of a file.
-fn fault(file: usize, line: usize, kind: FaultKind) -> ConfError
-    ensures { result ≡ fault_at file line kind }
-{
-    ConfError {
-        kind,
-        at: Some(file),
-        line,
-    }
-}
-
-/// A fault of reading `file`. A failed allocation has no position.
-fn fault_in(file: usize, found: RuleFault) -> ConfError
-    ensures kind { result.kind ≡ found.kind }
-    ensures place { UnlessMemory result found.kind (result ≡ fault_at file found.line found.kind) }
-{
-    match found.kind {
-        FaultKind::Memory => ConfError {
-            kind: FaultKind::Memory,
-            at: None,
-            line: 0,
-        },
-        kind => fault(file, found.line, kind),
-    }
-}
-
-/// Reads the wanted rules of the file at a position.
-pub(crate) fn file_rules(
-    alloc: Global,
-    files: &Files,
-    file: usize,
-    wanted: Wanted<'_>,
-) -> Result<Vec<KeptRule>, ConfError>
-    requires { file < length files.now.entries }
-    ensures { Gives ErrorTells (λ rules. map kept_view rules.items) result (in_file file (only_wanted wanted.entry (rules_at files.now file))) }
-{
-    let bytes = files.bytes(file).unwrap_or(b"");
-    wanted_rules(alloc, bytes, files.form(), wanted).map_err(|found| fault_in(file, found))
 }
 
 /// The module that a rule calls.
@@ -155,16 +118,31 @@ impl Walker<'_> {
         file_rules(self.alloc, self.files, file, Wanted::OfKind(self.kind))
     }
 
-    /// Notes a fault, if the walk goes on after faults; else the fault is the error.
-    fn meet(&self, noted: &mut Vec<ConfError>, fault: ConfError) -> Result<Option<usize>, ConfError>
-        requires { fault.kind ≡ FaultKind.Memory → ⊥ }
-        ensures noted { IfOk result (λ o. (o ≡ None) × (is_some self.now.read ≡ true) × (noted.new.items ≡ noted.old.items ++ fault ∷ [])) }
-        ensures ended { IfErr result (λ e. UnlessMemory e e.kind ((is_some self.now.read ≡ false) × (e ≡ fault) × (noted.new.items ≡ noted.old.items))) }
+    /// Notes the fault of a target, which counts as a follow, if the walk goes on after faults; else the fault is the error.
+    #[tactic(auto, unfolding(crate::specs::inner::Progress::ending))]
+    fn meet(
+        &self,
+        progress: &mut Progress,
+        at: Location,
+        kind: FaultKind,
+    ) -> Result<Option<usize>, ConfError>
+        requires { kind ≡ FaultKind.Memory → ⊥ }
+        ensures table { progress.new.table ≡ progress.old.table }
+        ensures noted { let met = fault_at at.file at.line kind in
+            IfOk result (λ o. (o ≡ None) × (ending (is_some self.now.read) (count_of progress.old) met ≡ None)
+            × (count_of progress.new ≡ with_fault met (count_of progress.old))) }
+        ensures ended { let met = fault_at at.file at.line kind in
+            IfErr result (λ e. UnlessMemory e e.kind ((ending (is_some self.now.read) (count_of progress.old) met ≡ Some e)
+            × (count_of progress.new ≡ count_of progress.old))) }
     {
         if self.read.is_none() {
-            return Err(fault);
+            return Err(fault(at.file, at.line, kind));
         }
-        noted.push(fault)?;
+        if progress.follows == MAX_FOLLOWS {
+            return Err(fault(at.file, at.line, FaultKind::TooManyFollowed));
+        }
+        progress.noted.push(fault(at.file, at.line, kind))?;
+        progress.follows += 1;
         Ok(None)
     }
 
@@ -193,7 +171,7 @@ impl Walker<'_> {
                 let Some(found) = read.get(file) else {
                     unreachable!()
                 };
-                self.walk_rules(progress, trail, file, found.rules.as_slice(), items)
+                self.walk_found(progress, trail, file, found, items)
             }
         }
     }
@@ -218,6 +196,30 @@ impl Walker<'_> {
             None => self.walk_file(progress, trail, file, items),
             Some(rules) => self.walk_rules(progress, trail, file, rules, items),
         }
+    }
+
+    /// Walks the rules of `file` that apply to the kind, where the file was read before.
+    #[cycle(walk)]
+    fn walk_found(
+        &self,
+        progress: &mut Progress,
+        trail: &Trail,
+        file: usize,
+        found: &FileRules,
+        items: &mut Vec<Item>,
+    ) -> Result<(), ConfError>
+        requires table { HasRules self.now.files.now self.now.kind self.now.read progress.old.table.items }
+        ensures table { OnOk result (HasRules self.now.files.now self.now.kind self.now.read progress.new.table.items) }
+        ensures walked { GoesOn self.now progress.old items.old.items
+            (rules_walk self.now.files.now (reads_by self.now.files.now self.now.read) self.now.kind (option_map (λ s. s.now) self.now.service)
+            (deeper_in self.now trail.now) trail.now file (kind_rules self.now.kind found.now)) progress.new items.new.items result }
+    {
+        for index in found.by_kind.indices(self.kind) {
+            if let Some(rule) = found.rules.get(*index) {
+                self.walk_rule(progress, trail, file, rule, items)?;
+            }
+        }
+        Ok(())
     }
 
     /// Walks rules of `file`.
@@ -352,7 +354,7 @@ impl Walker<'_> {
         let position = match self.find(trail, target) {
             Ok(position) => position,
             Err(kind) => {
-                return self.meet(&mut progress.noted, fault(at.file, at.line, kind));
+                return self.meet(progress, at, kind);
             }
         };
         if progress.follows == MAX_FOLLOWS {

@@ -2,4 +2,5 @@ mod Ends
 mod EscapedTexts
 pub mod Indices
 pub mod Loops
+pub mod PictureProofs
 mod Quotes

@@ -19,7 +19,7 @@ use Rattle.pam_graph.specs.declared.node.Edge.{Edge}
 use Rattle.pam_graph.specs.declared.node.Node.{Node}
 use Rattle.pam_graph.specs.declared.node.Target.{Target}
 use Rattle.pam_graph.specs.declared.node.Target.TheVariants.{At, End}
-use Rattle.pam_known.specs.Answers.{name_of_path}
+use Rattle.pam_facts.specs.known.Answers.{name_of_path}
 
 -- ---- what is drawn
 

@@ -3,3 +3,4 @@ pub mod Escaped
 pub mod Labels
 pub mod Languages
 pub mod Laws
+pub mod picture

@@ -7,6 +7,7 @@ mod format;
 mod label;
 pub mod laws;
 mod node;
+pub mod picture;
 mod xml;
 
 pub use drawing::{write_dot, write_mermaid};

@@ -14,8 +14,8 @@ use crate::label::put_label;
 use pam_codes::{Code, Device, Out, Piece};
 use pam_conf::Stack;
 use pam_dispatch::{Impression, State};
+use pam_facts::known::name_of_path;
 use pam_graph::Node;
-use pam_known::name_of_path;
 use std::io::Write;
 
 /// Returns the name of an impression.

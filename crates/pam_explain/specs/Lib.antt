@@ -1,7 +1,9 @@
+pub mod Arguments
 pub mod Explanation
 pub mod Explanations
 pub mod Hosts
 pub mod Laws
+pub mod Named
 pub mod OldTables
 pub mod Paths
 pub mod Released

@@ -1,7 +1,7 @@
 -- What released Linux-PAM reads otherwise than the manual pages say.
 use Rattle.std.specs.Prelude.{List, [], ◌∷◌, ◌++◌, codes}
 use Rattle.pam_explain.specs.Explanation.{Explanation}
-use Rattle.pam_explain.specs.declared.explanation.Level.TheVariants.{Note, Warning}
+use Rattle.pam_explain.specs.declared.explanation.Level.TheVariants.{Error, Note, Warning}
 
 -- LINES THAT GO ON
 
@@ -102,8 +102,8 @@ ends_in_continuation =
           ++ codes "auth required pam_unix.so \\";
       linux_pam =
           codes "1.5.2 and 1.7.0 refuse the whole file, and with it each service\n"
-          ++ codes "that needs it, which locks out. 1.5.2 does so too where only blank lines and\n"
-          ++ codes "comments follow.";
+          ++ codes "that needs it, which locks out. The file other is needed by each. 1.5.2\n"
+          ++ codes "does so too where only blank lines and comments follow.";
       mending =
           codes "remove the backslash.";
     }
@@ -161,7 +161,9 @@ empty_module_name =
           codes "# login\n"
           ++ codes "auth required /lib/security/.so";
       linux_pam =
-          codes "1.5.2 and 1.7.0 refuse the whole configuration, which locks out.";
+          codes "1.5.2 and 1.7.0 refuse the whole configuration, which locks out: of\n"
+          ++ codes "each service, if the line is in the file other. What substack names is such a\n"
+          ++ codes "path for them too, as .x and ? are.";
       mending =
           codes "name the file of the module.";
     }
@@ -187,8 +189,35 @@ dropped_blank =
           codes "write the word in brackets on one line.";
     }
 
+-- FILES THAT ONLY THE SECOND FOLDER HAS
+
+unfoldable pub included_from_vendor : Explanation
+included_from_vendor =
+    record {
+      number = codes "L10";
+      name = codes "IncludedFromVendor";
+      level = Error;
+      meaning =
+          codes "A rule includes a file that only the second folder has, which is\n"
+          ++ codes "/usr/lib/pam.d of a system. For include and substack it is a warning.";
+      example =
+          codes "# login\n"
+          ++ codes "@include shared\n"
+          ++ codes "auth required pam_unix.so\n"
+          ++ codes "$ mkdir v; echo 'auth required pam_unix.so' >v/shared\n"
+          ++ codes "$ pamcheck check --dir . --vendor-dir v";
+      linux_pam =
+          codes "Debian's opens the files that rules name in /etc/pam.d alone. Where\n"
+          ++ codes "it finds none, it refuses the whole configuration for an @include, which locks\n"
+          ++ codes "out: of each service, if the line is in the file other. For include and\n"
+          ++ codes "substack the rule fails.";
+      mending =
+          codes "copy the file into the first folder, /etc/pam.d of a system.";
+    }
+
 -- THE ROWS, in the order of their numbers
 abbrev pub of_released : List Explanation
 of_released =
     carriage_return ∷ continued_over_blank ∷ backslash_blank ∷ backslash_comment ∷
-    ends_in_continuation ∷ capital_in_brackets ∷ long_line ∷ empty_module_name ∷ dropped_blank ∷ []
+    ends_in_continuation ∷ capital_in_brackets ∷ long_line ∷ empty_module_name ∷ dropped_blank ∷
+    included_from_vendor ∷ []

@@ -1,7 +1,7 @@
 -- Faults of a rule by itself.
 use Rattle.std.specs.Prelude.{List, [], ◌∷◌, ◌++◌, codes}
 use Rattle.pam_explain.specs.Explanation.{Explanation}
-use Rattle.pam_explain.specs.Shared.{control_fails, restore_file, rule_fails}
+use Rattle.pam_explain.specs.Shared.{control_fails, restore_file}
 use Rattle.pam_explain.specs.declared.explanation.Level.TheVariants.{Error}
 
 -- FILES THAT ARE NO TEXT, AND RULES OF WHICH A PART IS MISSING OR WRONG
@@ -34,7 +34,11 @@ missing_field =
       example =
           codes "# login\n"
           ++ codes "auth required";
-      linux_pam = rule_fails;
+      linux_pam =
+          codes "1.5.2 and 1.7.0 make a rule of it that always fails. It keeps the\n"
+          ++ codes "kind and the control that the line has: auth sufficient without a path is\n"
+          ++ codes "passed over, and auth required without one locks out. The other kinds go on,\n"
+          ++ codes "and in pam.conf the other services.";
       mending =
           codes "write the words that are missing, or remove the line.";
     }
@@ -51,7 +55,10 @@ bad_kind =
       example =
           codes "# login\n"
           ++ codes "auht required pam_unix.so";
-      linux_pam = rule_fails;
+      linux_pam =
+          codes "1.5.2 and 1.7.0 make a rule of it that always fails, with the\n"
+          ++ codes "control that the line has: one of auth, or of the kind for which the file is\n"
+          ++ codes "included. The other kinds go on, and in pam.conf the other services.";
       mending =
           codes "correct the word. A - before it is allowed: it only keeps a\n"
           ++ codes "missing module out of the system log.";
@@ -149,7 +156,8 @@ open_bracket =
           ++ codes "auth requisite pam_deny.so\n"
           ++ codes "auth required pam_permit.so";
       linux_pam =
-          codes "1.5.2 and 1.7.0 take all up to the end of the line as one word.";
+          codes "1.5.2 and 1.7.0 take all up to the end of the line as one word, and\n"
+          ++ codes "its line feed too.";
       mending =
           codes "write ] after the last word that belongs in the brackets.";
     }

@@ -1,7 +1,7 @@
 -- Faults of a stack: files that rules name, and limits.
 use Rattle.std.specs.Prelude.{List, [], ◌∷◌, ◌++◌, codes}
 use Rattle.pam_explain.specs.Explanation.{Explanation}
-use Rattle.pam_explain.specs.Shared.{deep_substacks, fault_of_run, fault_of_words, free_memory, no_limit, own_limit, rule_fails}
+use Rattle.pam_explain.specs.Shared.{deep_substacks, fault_of_run, fault_of_words, free_memory, no_limit, own_limit}
 use Rattle.pam_explain.specs.declared.explanation.Level.TheVariants.{Error, Warning}
 
 -- FILES THAT RULES NAME, AND THEIR LIMITS
@@ -18,7 +18,10 @@ missing_target =
       example =
           codes "# login\n"
           ++ codes "auth include";
-      linux_pam = rule_fails;
+      linux_pam =
+          codes "Debian's 1.5.2 ends the program that asks for the service, by a\n"
+          ++ codes "null pointer. In the file other such a line ends each program that asks for\n"
+          ++ codes "some service.";
       mending =
           codes "write the name of the file, or remove the line.";
     }
@@ -58,7 +61,9 @@ cycle =
           ++ codes "auth required pam_unix.so\n"
           ++ codes "auth include login";
       linux_pam =
-          codes "pam.conf(5) does not say what happens then.";
+          codes "Debian's 1.5.2 follows include and @include without end, until the\n"
+          ++ codes "system ends the program that asks. Of substacks in one another it follows 15;\n"
+          ++ codes "the next one is a rule that always fails.";
       mending =
           codes "remove the line, or the one that leads back to this file.";
     }
@@ -132,8 +137,9 @@ no_service =
           codes "# login\n"
           ++ codes "auth include common-auht";
       linux_pam =
-          codes "it reads all four kinds of a service, and of other, whenever a\n"
-          ++ codes "program starts, so a fault in one of them stops all.";
+          codes "1.5.2 makes a rule that always fails of include and substack, and\n"
+          ++ codes "the other kinds go on. With @include the whole service is refused, and in the\n"
+          ++ codes "file other each service, since other is read whenever a program starts.";
       mending =
           codes "correct the name, or make the file; in pam.conf, write the rules.";
     }

@@ -1,4 +1,4 @@
--- Faults of the words of the command line, and of reads and writes.
+-- Faults of the words of the command line.
 use Rattle.std.specs.Prelude.{List, [], ◌∷◌, ◌++◌, codes}
 use Rattle.pam_explain.specs.Explanation.{Explanation}
 use Rattle.pam_explain.specs.Shared.{fault_of_run, fault_of_words, free_memory, give_one}
@@ -242,14 +242,15 @@ candidate_form =
       name = codes "CandidateForm";
       level = Error;
       meaning =
-          codes "A value of --with does not have the form NAME=FILE, or --with is given beside\n"
+          codes "A value of --with does not have the form NAME=FILE, its NAME has a slash, or a\n"
+          ++ codes "SERVICE of check that is a file ends in a slash. Or one of these is given beside\n"
           ++ codes "--conf, whose one file is for all services and has no NAME.";
       example =
           codes "$ pamcheck show login auth --dir . --with login";
       linux_pam = fault_of_words;
       mending =
           codes "write --with NAME=FILE, as --with sshd=/tmp/sshd, beside --dir or\n"
-          ++ codes "--root.";
+          ++ codes "--root. NAME is that of a file in the folder.";
     }
 
 unfoldable pub release_form : Explanation
@@ -283,46 +284,9 @@ setting_form =
           codes "write --set KEY=CODES, as --set pam_unix.so=success,auth_err.";
     }
 
--- READS AND WRITES
-
-unfoldable pub failed_read : Explanation
-failed_read =
-    record {
-      number = codes "V1";
-      name = codes "Read";
-      level = Error;
-      meaning =
-          codes "A file or folder cannot be read: it is not there, or may not be read. check\n"
-          ++ codes "then says nothing at all, since a report on a part of a host could be silent\n"
-          ++ codes "where the host is not sound.";
-      example =
-          codes "$ pamcheck check --dir no-such-folder";
-      linux_pam = fault_of_run;
-      mending =
-          codes "correct the name, or run pamcheck as a user who may read it.";
-    }
-
-unfoldable pub failed_write : Explanation
-failed_write =
-    record {
-      number = codes "V2";
-      name = codes "Write";
-      level = Error;
-      meaning =
-          codes "A write to standard output failed, as on a full disk. What was written by then\n"
-          ++ codes "is the beginning of the answer.";
-      example =
-          codes "# login\n"
-          ++ codes "auth required pam_unix.so\n"
-          ++ codes "$ pamcheck show login auth --dir . >/dev/full";
-      linux_pam = fault_of_run;
-      mending =
-          codes "make room, and run pamcheck again.";
-    }
-
 -- THE ROWS, in the order of their numbers
 abbrev pub of_words : List Explanation
 of_words =
     not_utf8 ∷ source ∷ kind_name ∷ code_name ∷ login ∷ moment ∷ memory ∷ both_ends ∷
     no_such_module ∷ no_such_key ∷ both_filters ∷ format_name ∷ level_name ∷ no_such_number ∷
-    candidate_form ∷ release_form ∷ setting_form ∷ failed_read ∷ failed_write ∷ []
+    candidate_form ∷ release_form ∷ setting_form ∷ []

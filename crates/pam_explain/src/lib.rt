@@ -1,9 +1,11 @@
 //! What each fault and each finding means: a table with a row for each number.
 #![tactic(auto)]
 
+mod arguments;
 mod explanation;
 mod hosts;
 pub mod laws;
+mod named;
 mod old_tables;
 mod paths;
 mod released;

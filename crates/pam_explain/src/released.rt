@@ -122,8 +122,8 @@ fn ends_in_continuation() -> Explanation
         example: concat!("# login\n", "auth required pam_unix.so \\"),
         linux_pam: concat!(
             "1.5.2 and 1.7.0 refuse the whole file, and with it each service\n",
-            "that needs it, which locks out. 1.5.2 does so too where only blank lines and\n",
-            "comments follow."
+            "that needs it, which locks out. The file other is needed by each. 1.5.2\n",
+            "does so too where only blank lines and comments follow."
         ),
         mending: "remove the backslash.",
     }
@@ -183,7 +183,11 @@ fn empty_module_name() -> Explanation
             "its last / and before its last dot."
         ),
         example: concat!("# login\n", "auth required /lib/security/.so"),
-        linux_pam: "1.5.2 and 1.7.0 refuse the whole configuration, which locks out.",
+        linux_pam: concat!(
+            "1.5.2 and 1.7.0 refuse the whole configuration, which locks out: of\n",
+            "each service, if the line is in the file other. What substack names is such a\n",
+            "path for them too, as .x and ? are."
+        ),
         mending: "name the file of the module.",
     }
 }
@@ -214,6 +218,35 @@ fn dropped_blank() -> Explanation
     }
 }
 
+#[tactic(auto, unfolding(crate::specs::Released::included_from_vendor))]
+fn included_from_vendor() -> Explanation
+    ensures { explanation_view result ≡ spec.included_from_vendor }
+{
+    Explanation {
+        number: "L10",
+        name: "IncludedFromVendor",
+        level: Level::Error,
+        meaning: concat!(
+            "A rule includes a file that only the second folder has, which is\n",
+            "/usr/lib/pam.d of a system. For include and substack it is a warning."
+        ),
+        example: concat!(
+            "# login\n",
+            "@include shared\n",
+            "auth required pam_unix.so\n",
+            "$ mkdir v; echo 'auth required pam_unix.so' >v/shared\n",
+            "$ pamcheck check --dir . --vendor-dir v"
+        ),
+        linux_pam: concat!(
+            "Debian's opens the files that rules name in /etc/pam.d alone. Where\n",
+            "it finds none, it refuses the whole configuration for an @include, which locks\n",
+            "out: of each service, if the line is in the file other. For include and\n",
+            "substack the rule fails."
+        ),
+        mending: "copy the file into the first folder, /etc/pam.d of a system.",
+    }
+}
+
 /// Returns the explanation at this index, or `None` past the last one. They are in the order of their numbers.
 pub(crate) fn of_released(row: usize) -> Option<Explanation>
     ensures { option_map explanation_view result ≡ slice_get spec.of_released row }
@@ -228,6 +261,7 @@ pub(crate) fn of_released(row: usize) -> Option<Explanation>
         6 => long_line(),
         7 => empty_module_name(),
         8 => dropped_blank(),
+        9 => included_from_vendor(),
         _ => return None,
     })
 }

@@ -7,7 +7,7 @@ ghost use Rattle.pam_explain.specs.Rules as spec;
 ghost use Rattle.pam_explain.specs.Views.{explanation_view};
 
 use crate::explanation::{Explanation, Level};
-use crate::shared::{CONTROL_FAILS, RESTORE_FILE, RULE_FAILS};
+use crate::shared::{CONTROL_FAILS, RESTORE_FILE};
 
 #[tactic(auto, unfolding(crate::specs::Rules::nul_byte))]
 fn nul_byte() -> Explanation
@@ -40,7 +40,12 @@ fn missing_field() -> Explanation
             "all three, and in pam.conf the service before them."
         ),
         example: concat!("# login\n", "auth required"),
-        linux_pam: RULE_FAILS,
+        linux_pam: concat!(
+            "1.5.2 and 1.7.0 make a rule of it that always fails. It keeps the\n",
+            "kind and the control that the line has: auth sufficient without a path is\n",
+            "passed over, and auth required without one locks out. The other kinds go on,\n",
+            "and in pam.conf the other services."
+        ),
         mending: "write the words that are missing, or remove the line.",
     }
 }
@@ -58,7 +63,11 @@ fn bad_kind() -> Explanation
             "in no stack, and what it was to check is not checked."
         ),
         example: concat!("# login\n", "auht required pam_unix.so"),
-        linux_pam: RULE_FAILS,
+        linux_pam: concat!(
+            "1.5.2 and 1.7.0 make a rule of it that always fails, with the\n",
+            "control that the line has: one of auth, or of the kind for which the file is\n",
+            "included. The other kinds go on, and in pam.conf the other services."
+        ),
         mending: concat!(
             "correct the word. A - before it is allowed: it only keeps a\n",
             "missing module out of the system log."
@@ -171,7 +180,10 @@ fn open_bracket() -> Explanation
             "auth requisite pam_deny.so\n",
             "auth required pam_permit.so"
         ),
-        linux_pam: "1.5.2 and 1.7.0 take all up to the end of the line as one word.",
+        linux_pam: concat!(
+            "1.5.2 and 1.7.0 take all up to the end of the line as one word, and\n",
+            "its line feed too."
+        ),
         mending: "write ] after the last word that belongs in the brackets.",
     }
 }

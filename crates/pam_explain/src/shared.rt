@@ -23,13 +23,10 @@ pub(crate) const OWN_ACCEPT_FILE: &str =
 pub(crate) const OWN_RETURNS_FILE: &str =
     "a returns file is pamcheck's own, and Linux-PAM does not read it.";
 
-/// Of Linux-PAM, where a rule lacks a part, or has a kind that is none.
-pub(crate) const RULE_FAILS: &str = "1.5.2 and 1.7.0 make a rule of it that always fails.";
-
 /// Of Linux-PAM, where a control cannot be read.
 pub(crate) const CONTROL_FAILS: &str = concat!(
     "where 1.5.2 and 1.7.0 cannot read a control, each answer of the\n",
-    "module counts as a failure (bad), success too."
+    "module counts as a failure (bad), success too. The other kinds go on."
 );
 
 /// To mend that the system gave no memory.

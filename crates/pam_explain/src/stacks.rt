@@ -8,7 +8,7 @@ ghost use Rattle.pam_explain.specs.Views.{explanation_view};
 
 use crate::explanation::{Explanation, Level};
 use crate::shared::{
-    FAULT_OF_RUN, FAULT_OF_WORDS, FREE_MEMORY, NO_LIMIT, OWN_LIMIT, RULE_FAILS, deep_substacks,
+    FAULT_OF_RUN, FAULT_OF_WORDS, FREE_MEMORY, NO_LIMIT, OWN_LIMIT, deep_substacks,
 };
 
 #[tactic(auto, unfolding(crate::specs::Stacks::missing_target))]
@@ -24,7 +24,11 @@ fn missing_target() -> Explanation
             "meant are not in the stack."
         ),
         example: concat!("# login\n", "auth include"),
-        linux_pam: RULE_FAILS,
+        linux_pam: concat!(
+            "Debian's 1.5.2 ends the program that asks for the service, by a\n",
+            "null pointer. In the file other such a line ends each program that asks for\n",
+            "some service."
+        ),
         mending: "write the name of the file, or remove the line.",
     }
 }
@@ -69,7 +73,11 @@ fn cycle() -> Explanation
             "auth required pam_unix.so\n",
             "auth include login"
         ),
-        linux_pam: "pam.conf(5) does not say what happens then.",
+        linux_pam: concat!(
+            "Debian's 1.5.2 follows include and @include without end, until the\n",
+            "system ends the program that asks. Of substacks in one another it follows 15;\n",
+            "the next one is a rule that always fails."
+        ),
         mending: "remove the line, or the one that leads back to this file.",
     }
 }
@@ -153,8 +161,9 @@ fn no_service() -> Explanation
         ),
         example: concat!("# login\n", "auth include common-auht"),
         linux_pam: concat!(
-            "it reads all four kinds of a service, and of other, whenever a\n",
-            "program starts, so a fault in one of them stops all."
+            "1.5.2 makes a rule that always fails of include and substack, and\n",
+            "the other kinds go on. With @include the whole service is refused, and in the\n",
+            "file other each service, since other is read whenever a program starts."
         ),
         mending: "correct the name, or make the file; in pam.conf, write the rules.",
     }

@@ -1,4 +1,4 @@
-//! Faults of the words of the command line, and of reads and writes.
+//! Faults of the words of the command line.
 
 ghost use Rattle.std.specs.Prelude.{◌≡◌};
 ghost use Rattle.std.specs.List.{slice_get};
@@ -268,14 +268,15 @@ fn candidate_form() -> Explanation
         name: "CandidateForm",
         level: Level::Error,
         meaning: concat!(
-            "A value of --with does not have the form NAME=FILE, or --with is given beside\n",
+            "A value of --with does not have the form NAME=FILE, its NAME has a slash, or a\n",
+            "SERVICE of check that is a file ends in a slash. Or one of these is given beside\n",
             "--conf, whose one file is for all services and has no NAME."
         ),
         example: "$ pamcheck show login auth --dir . --with login",
         linux_pam: FAULT_OF_WORDS,
         mending: concat!(
             "write --with NAME=FILE, as --with sshd=/tmp/sshd, beside --dir or\n",
-            "--root."
+            "--root. NAME is that of a file in the folder."
         ),
     }
 }
@@ -313,47 +314,6 @@ fn setting_form() -> Explanation
     }
 }
 
-#[tactic(auto, unfolding(crate::specs::Words::failed_read))]
-fn failed_read() -> Explanation
-    ensures { explanation_view result ≡ spec.failed_read }
-{
-    Explanation {
-        number: "V1",
-        name: "Read",
-        level: Level::Error,
-        meaning: concat!(
-            "A file or folder cannot be read: it is not there, or may not be read. check\n",
-            "then says nothing at all, since a report on a part of a host could be silent\n",
-            "where the host is not sound."
-        ),
-        example: "$ pamcheck check --dir no-such-folder",
-        linux_pam: FAULT_OF_RUN,
-        mending: "correct the name, or run pamcheck as a user who may read it.",
-    }
-}
-
-#[tactic(auto, unfolding(crate::specs::Words::failed_write))]
-fn failed_write() -> Explanation
-    ensures { explanation_view result ≡ spec.failed_write }
-{
-    Explanation {
-        number: "V2",
-        name: "Write",
-        level: Level::Error,
-        meaning: concat!(
-            "A write to standard output failed, as on a full disk. What was written by then\n",
-            "is the beginning of the answer."
-        ),
-        example: concat!(
-            "# login\n",
-            "auth required pam_unix.so\n",
-            "$ pamcheck show login auth --dir . >/dev/full"
-        ),
-        linux_pam: FAULT_OF_RUN,
-        mending: "make room, and run pamcheck again.",
-    }
-}
-
 /// Returns the explanation at this index, or `None` past the last one. They are in the order of their numbers.
 pub(crate) fn of_words(row: usize) -> Option<Explanation>
     ensures { option_map explanation_view result ≡ slice_get spec.of_words row }
@@ -376,8 +336,6 @@ pub(crate) fn of_words(row: usize) -> Option<Explanation>
         14 => candidate_form(),
         15 => release_form(),
         16 => setting_form(),
-        17 => failed_read(),
-        18 => failed_write(),
         _ => return None,
     })
 }

@@ -2,9 +2,12 @@ pub mod AddSteps
 pub mod AnswerSteps
 pub mod CodeSteps
 pub mod FactSteps
+pub mod FolderSteps
 pub mod HeadSteps
 pub mod KindSteps
+pub mod KnownProofs
 pub mod LawSteps
+pub mod OptionSteps
 pub mod Replaced
 pub mod RowSteps
 pub mod TableSteps

@@ -4,6 +4,7 @@ use Rattle.std.specs.List.{ends_with, list_all, list_any, starts_with}
 use Rattle.std.specs.Option.{option_map_or}
 use Rattle.std.specs.Str.{bytes_eq}
 use Rattle.pam_facts.specs.Facts.{unknown}
+use Rattle.pam_facts.specs.Options.{arguments_read}
 use Rattle.pam_facts.specs.Paths.{module_name}
 use Rattle.pam_facts.specs.Rows.{Row}
 use Rattle.pam_facts.specs.declared.row.Fact.{Fact}
@@ -21,6 +22,6 @@ abbrev pub last_fact : (Row → Bool) → Fact → List Row → Fact
 last_fact fits_module fact [] = fact
 last_fact fits_module fact (row ∷ rows) = last_fact fits_module (if fits_module row then row.fact else fact) rows
 
--- WHAT IS KNOWN of the module at a path, for the arguments of its rule
+-- WHAT IS KNOWN of the module at a path, for the arguments of its rule that it reads
 abbrev pub fact_of : List Row → List ℕ → List (List ℕ) → Fact
-fact_of rows path arguments = option_map_or (λ name. last_fact (fits name arguments) unknown rows) (module_name path) unknown
+fact_of rows path arguments = option_map_or (λ name. last_fact (fits name (arguments_read name arguments)) unknown rows) (module_name path) unknown

@@ -6,6 +6,7 @@ pub mod Fitting
 pub mod Kinds
 pub mod Laws
 pub mod Missing
+pub mod Options
 pub mod Paths
 pub mod Reading
 pub mod Rows
@@ -13,3 +14,5 @@ pub mod Table
 pub mod Views
 pub mod Words
 pub mod inner
+pub mod known
+pub mod settings

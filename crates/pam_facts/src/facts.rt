@@ -1,14 +1,16 @@
 //! What is known of modules.
 
 ghost use Rattle.std.specs.Prelude.{◌≡◌, map};
-ghost use Rattle.std.specs.List.{list_all, list_any};
+ghost use Rattle.std.specs.List.{list_all, list_any, take_while};
 ghost use Rattle.pam_facts.specs.Error.{Gives};
 ghost use Rattle.pam_facts.specs.Fitting.{argument_fits, fact_of, fits, last_fact};
 ghost use Rattle.pam_facts.specs.Facts.{unknown};
+ghost use Rattle.pam_facts.specs.Options.{arguments_read, is_option};
 ghost use Rattle.pam_facts.specs.Reading.{known_rows};
 ghost use Rattle.pam_facts.specs.Views.{row_view, texts_of};
 
 use crate::error::FactsError;
+use crate::options::is_option;
 use crate::paths::module_name;
 use crate::reading::{Row, add_file, add_table};
 use crate::row::Fact;
@@ -50,36 +52,51 @@ fn argument_fits(wanted: &[u8], argument: &[u8]) -> bool
     }
 }
 
-fn has_argument(wanted: &[u8], arguments: &Texts) -> bool
-    ensures { result ≡ list_any (argument_fits wanted.now) arguments.now }
+/// Whether an option of `pam_exec` before the program is the one that is wanted.
+fn has_option(wanted: &[u8], arguments: &Texts) -> bool
+    ensures { result ≡ list_any (argument_fits wanted.now) (take_while is_option arguments.now) }
 {
     arguments
         .iter()
+        .take_while(|argument| is_option(argument))
         .any(|argument| argument_fits(wanted, argument))
 }
 
+/// Whether a module of this name reads the argument that is wanted.
+fn has_argument(name: &[u8], wanted: &[u8], arguments: &Texts) -> bool
+    ensures { result ≡ list_any (argument_fits wanted.now) (arguments_read name.now arguments.now) }
+{
+    if name == b"pam_exec".as_slice() {
+        has_option(wanted, arguments)
+    } else {
+        arguments
+            .iter()
+            .any(|argument| argument_fits(wanted, argument))
+    }
+}
+
 /// Whether the arguments have the one that is wanted, if one is.
-fn has_wanted(wanted: Option<&[u8]>, arguments: &Texts) -> bool
-    ensures { result ≡ list_all (λ w. list_any (argument_fits w) arguments.now) (texts_of wanted.entry) }
+fn has_wanted(name: &[u8], wanted: Option<&[u8]>, arguments: &Texts) -> bool
+    ensures { result ≡ list_all (λ w. list_any (argument_fits w) (arguments_read name.now arguments.now)) (texts_of wanted.entry) }
 {
     match wanted {
-        Some(wanted) => has_argument(wanted, arguments),
+        Some(wanted) => has_argument(name, wanted, arguments),
         None => true,
     }
 }
 
 /// Whether a row fits a module of this name with these arguments.
 fn fits(name: &[u8], arguments: &Texts, row: &Row<'_>) -> bool
-    ensures { result ≡ fits name.now arguments.now (row_view row.now) }
+    ensures { result ≡ fits name.now (arguments_read name.now arguments.now) (row_view row.now) }
 {
     row.name == name
-        && has_wanted(row.arguments.first, arguments)
-        && has_wanted(row.arguments.second, arguments)
+        && has_wanted(name, row.arguments.first, arguments)
+        && has_wanted(name, row.arguments.second, arguments)
 }
 
 /// The fact of the last row that fits.
 fn last_fact(name: &[u8], arguments: &Texts, rows: &[Row<'_>]) -> Fact
-    ensures { result ≡ last_fact (fits name.now arguments.now) unknown (map row_view rows.now) }
+    ensures { result ≡ last_fact (fits name.now (arguments_read name.now arguments.now)) unknown (map row_view rows.now) }
 {
     let mut fact = Fact::unknown();
     for row in rows {
@@ -105,7 +122,7 @@ impl<'a> Facts<'a> {
         Ok(Facts { rows })
     }
 
-    /// What is known of the module at a path, for the arguments of its rule.
+    /// What is known of the module at a path, for the arguments of its rule that it reads.
     pub fn of(&self, path: &[u8], arguments: &Texts) -> Fact
         ensures { result ≡ fact_of self.now path.now arguments.now }
     {

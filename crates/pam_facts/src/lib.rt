@@ -1,18 +1,22 @@
 //! What is known of modules: which of them check who logs in, in which kinds a module has a function, and which codes it can
-//! answer. A table of the program has the facts of 84 modules, and a facts file adds to it.
+//! answer. A table of the program has the facts of 87 modules, and a facts file adds to it.
 #![tactic(auto)]
 
 mod answers;
 mod error;
 mod facts;
+mod folder;
 mod head;
 mod kinds;
+pub mod known;
 pub mod laws;
 mod missing;
+mod options;
 mod paths;
 mod reading;
 mod replacing;
 mod row;
+pub mod settings;
 mod table;
 mod words;
 

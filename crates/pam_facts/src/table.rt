@@ -13,7 +13,7 @@ const TABLE: &[u8] = b"\
     pam_abl passes account,password,session module_unknown\n\
     pam_access passes auth,account,password,session success perm_denied user_unknown abort\n\
     pam_afs_session passes account,password module_unknown\n\
-    pam_alreadyloggedin checks account,password,session module_unknown\n\
+    pam_alreadyloggedin passes account,password,session module_unknown\n\
     pam_apparmor passes auth,account,password module_unknown\n\
     pam_canonicalize_user fails account,password,session module_unknown\n\
     pam_cap passes account,password,session module_unknown\n\
@@ -22,6 +22,7 @@ const TABLE: &[u8] = b"\
     pam_ccreds action=update passes account,password,session module_unknown\n\
     pam_cgfs passes auth,account,password module_unknown\n\
     pam_chroot passes\n\
+    pam_cracklib passes auth,account,session module_unknown\n\
     pam_debug passes auth,account,password,session success\n\
     pam_debug acct= passes\n\
     pam_debug auth= passes\n\
@@ -34,6 +35,12 @@ const TABLE: &[u8] = b"\
     pam_env passes auth ignore account,password service_err\n\
     pam_exec passes\n\
     pam_exec expose_authtok checks\n\
+    pam_exec type= passes auth,account,session ignore password success ignore\n\
+    pam_exec type=account passes auth,session ignore password success ignore\n\
+    pam_exec type=auth passes account,session ignore password success ignore\n\
+    pam_exec expose_authtok type=auth checks account,session ignore password success ignore\n\
+    pam_exec type=open_session passes auth,account ignore password success ignore\n\
+    pam_exec type=password passes auth,account,session ignore\n\
     pam_faildelay passes auth ignore account,password,session module_unknown\n\
     pam_faillock passes password,session module_unknown\n\
     pam_filter passes\n\
@@ -67,18 +74,19 @@ const TABLE: &[u8] = b"\
     pam_nologin passes auth,account ignore auth_err user_unknown buf_err system_err password,session module_unknown\n\
     pam_nologin successok passes password,session module_unknown\n\
     pam_oath checks account,password,session module_unknown\n\
+    pam_oath alwaysok passes account,password,session module_unknown\n\
     pam_otpw checks account,password module_unknown\n\
     pam_p11 checks\n\
     pam_passwdqc passes auth,account,session module_unknown\n\
     pam_permit passes account,password,session success\n\
-    pam_pkcs11 checks\n\
+    pam_pkcs11 ignores\n\
     pam_poldi checks account,password,session module_unknown\n\
     pam_pwdfile checks account,password,session module_unknown\n\
     pam_pwhistory passes auth,account,session module_unknown\n\
     pam_pwquality passes auth,account,session module_unknown\n\
     pam_python checks\n\
-    pam_radius_auth checks\n\
-    pam_radius_auth localifdown ignores\n\
+    pam_radius_auth checks account,password module_unknown\n\
+    pam_radius_auth localifdown ignores account,password module_unknown\n\
     pam_rhosts checks account,password,session module_unknown\n\
     pam_rootok checks auth,account,password success auth_err session module_unknown\n\
     pam_script checks\n\
@@ -100,12 +108,15 @@ const TABLE: &[u8] = b"\
     pam_succeed_if use_uid checks\n\
     pam_systemd passes auth,account,password module_unknown\n\
     pam_systemd_home checks\n\
+    pam_tally passes password,session module_unknown\n\
+    pam_tally2 passes password,session module_unknown\n\
     pam_time passes auth,password,session module_unknown\n\
     pam_timestamp checks account,password module_unknown\n\
     pam_tmpdir passes\n\
     pam_tty_audit passes auth,account,password module_unknown\n\
     pam_u2f checks account,password,session module_unknown\n\
     pam_u2f nouserok ignores account,password,session module_unknown\n\
+    pam_u2f alwaysok passes account,password,session module_unknown\n\
     pam_umask passes auth,account,password module_unknown\n\
     pam_unix checks\n\
     pam_userdb checks auth service_err password,session module_unknown\n\
@@ -123,6 +134,7 @@ const TABLE: &[u8] = b"\
     pam_xauth passes auth,account,password module_unknown\n\
     pam_yubico checks\n\
     pam_yubico nullok ignores\n\
+    pam_yubico alwaysok passes\n\
 ";
 
 /// The table as a facts file, a row a line.

@@ -7,7 +7,7 @@ use Rattle.pam_graph.specs.declared.goal.Goal.{Goal}
 use Rattle.pam_graph.specs.Goals.{meeting, meets}
 use Rattle.pam_graph.proofs.Sides.{filter-reverse}
 use Rattle.pam_graph.proofs.Turning.{filter-swap}
-use Rattle.pam_paths.specs.Classes.{Member}
+use Rattle.pam_text.specs.Members.{Member}
 use Rattle.pam_paths.specs.Pages.{before}
 use Rattle.pam_paths.specs.Paths.{IsRising, PathValue, key, precedes}
 use Rattle.pam_paths.proofs.Alike.{Member-filter_back}

@@ -9,7 +9,8 @@ use Rattle.pam_dispatch.specs.declared.step.Outcome.{Outcome}
 use Rattle.pam_codes.specs.Code.{all_codes}
 use Rattle.pam_dispatch.specs.Runs.{Ask, outcome_of}
 use Rattle.pam_dispatch.specs.State.{impression_number}
-use Rattle.pam_paths.specs.Classes.{Member, class_at, class_of, least, same_outcome}
+use Rattle.pam_text.specs.Members.{Member}
+use Rattle.pam_paths.specs.Classes.{class_at, class_of, least, same_outcome}
 use Rattle.pam_paths.specs.Computed.{is_offered}
 use Rattle.pam_paths.specs.Listing.{Allowance}
 use Rattle.std.specs.List.{range_with_len}

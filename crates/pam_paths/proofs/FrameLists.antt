@@ -12,7 +12,7 @@ use Rattle.pam_paths.specs.declared.classes.Classes.{Classes}
 use Rattle.pam_paths.specs.declared.direction.Direction.{Direction}
 use Rattle.pam_paths.specs.declared.direction.Direction.TheVariants.{Forward, Backward}
 use Rattle.pam_paths.specs.declared.frames.Frame.{Frame}
-use Rattle.pam_paths.specs.Classes.{Member}
+use Rattle.pam_text.specs.Members.{Member}
 use Rattle.pam_paths.specs.Computed.{after_step, after_steps, listing}
 use Rattle.pam_paths.specs.Directions.{ordered, past}
 use Rattle.pam_paths.specs.inner.Directions.{outset}

@@ -6,7 +6,8 @@ use Rattle.pam_dispatch.specs.declared.step.Outcome.{Outcome}
 use Rattle.pam_paths.proofs.Alike.{Member-codes, Member-codes_back, of_class, least_of_class, least_is_offered, list_any_back}
 use Rattle.pam_codes.specs.Code.{all_codes}
 use Rattle.pam_dispatch.specs.Runs.{Ask, AsksRise, Assignment, Runs, asks, ends, outcome_of, asked_by, final_state}
-use Rattle.pam_paths.specs.Classes.{Member, class_at, class_of, least}
+use Rattle.pam_text.specs.Members.{Member}
+use Rattle.pam_paths.specs.Classes.{class_at, class_of, least}
 use Rattle.pam_paths.specs.Computed.{branches, is_offered, listing}
 use Rattle.pam_paths.specs.Listing.{Allowance, IsAllowed, IsLawful, IsListing}
 use Rattle.pam_paths.specs.Computed.{after_step}

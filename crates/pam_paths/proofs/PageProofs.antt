@@ -6,7 +6,7 @@ use Rattle.std.proofs.lemmas.List.{length-take-le, reverse-append, reverse-rever
 use Rattle.std.proofs.lemmas.List.Elements.{filter-append}
 use Rattle.std.proofs.lemmas.Bool.{cond-true, cond-false, cases_Bool, leb-false}
 use Rattle.pam_dispatch.specs.Runs.{Assignment}
-use Rattle.pam_paths.specs.Classes.{Member}
+use Rattle.pam_text.specs.Members.{Member}
 use Rattle.pam_paths.specs.Paths.{FollowsAll, Precedes, PrecedesAll, IsFalling, IsRising, PathValue, precedes, key}
 use Rattle.pam_paths.specs.Listing.{Allowance, IsListing, IsListingBefore}
 use Rattle.pam_paths.specs.Pages.{ArePrefix, Page, SayEnd, before, after, joined, last_key, pages}

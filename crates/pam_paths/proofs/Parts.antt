@@ -9,7 +9,8 @@ use Rattle.std.proofs.lemmas.Bool.{cond_both, cond-true, cond-false, cases_Bool,
 use Rattle.pam_codes.specs.Code.{all_codes}
 use Rattle.pam_dispatch.specs.declared.step.Outcome.{Outcome}
 use Rattle.pam_dispatch.specs.Runs.{Assignment, Ask, Runs, asks, ends, outcome_of}
-use Rattle.pam_paths.specs.Classes.{Member, class_of, least}
+use Rattle.pam_text.specs.Members.{Member}
+use Rattle.pam_paths.specs.Classes.{class_of, least}
 use Rattle.pam_paths.specs.Paths.{IsRising, PathValue, precedes, key, key_of, step_of}
 use Rattle.pam_paths.specs.declared.direction.Direction.TheVariants.{Forward, Backward}
 use Rattle.pam_paths.specs.Computed.{after_step, branches, is_offered, listing}

@@ -16,7 +16,8 @@ use Rattle.pam_codes.specs.inner.SetBits.{is_in-codes_where, codes_where-same}
 use Rattle.pam_dispatch.specs.declared.step.Outcome.{Outcome}
 use Rattle.pam_dispatch.specs.Alike.{looks_at_code}
 use Rattle.pam_dispatch.specs.Runs.{Ask, outcome_of}
-use Rattle.pam_paths.specs.Classes.{Member, class_at, least, same_outcome}
+use Rattle.pam_text.specs.Members.{Member}
+use Rattle.pam_paths.specs.Classes.{class_at, least, same_outcome}
 use Rattle.pam_paths.proofs.Alike.{list_any_back, list_any_from, Member-codes_back, Member-filter_back}
 use Rattle.pam_paths.proofs.Alike.{same_outcome-true}
 use Rattle.pam_paths.proofs.OneAction.{one_outcome, own_status}

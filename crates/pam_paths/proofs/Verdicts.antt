@@ -3,7 +3,8 @@ use Rattle.std.proofs.Common.{◌≡◌, ◌≢◌, ℕ, ◌+◌, ◌<◌, ◌==
 use Rattle.std.proofs.lemmas.Bool.{eq-eqb, ne_eqb, cases_eq, cond-true, cond-false}
 use Rattle.pam_dispatch.specs.declared.step.Outcome.{Outcome}
 use Rattle.pam_dispatch.specs.Runs.{Ask, AsksRise, Assignment, Runs, asks, ends, outcome_of, asked_by, final_state}
-use Rattle.pam_paths.specs.Classes.{Member, class_of, least}
+use Rattle.pam_text.specs.Members.{Member}
+use Rattle.pam_paths.specs.Classes.{class_of, least}
 use Rattle.pam_paths.specs.Computed.{after_step}
 use Rattle.pam_paths.specs.Paths.{PathValue, StepValue, key, key_of, path_of, step_of}
 use Rattle.pam_paths.specs.Listing.{AreCodes}

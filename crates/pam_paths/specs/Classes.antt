@@ -1,14 +1,9 @@
 -- The answers that a run does not tell apart: pam.conf(5), the actions of a control.
-use Rattle.std.specs.Prelude.{◌≡◌, ◌⊎◌, ℕ, ◌==◌, Bool, ◌&&◌, List, [], ◌∷◌}
+use Rattle.std.specs.Prelude.{◌≡◌, ℕ, ◌==◌, Bool, ◌&&◌, List, [], ◌∷◌}
 use Rattle.pam_codes.specs.Set.{codes_where}
 use Rattle.pam_dispatch.specs.declared.step.Outcome.{Outcome}
 use Rattle.pam_dispatch.specs.Runs.{Ask, outcome_of}
 use Rattle.pam_dispatch.specs.State.{impression_number}
-
--- x is an element of the list
-unfoldable pub Member : {X : Type 0} → X → List X → Type 0
-Member x [] = ⊥
-Member x (y ∷ ys) = (x ≡ y) ⊎ Member x ys
 
 -- two outcomes are the same: the same new state, and the same number of items left in the module's own list
 unfoldable pub same_outcome : Outcome → Outcome → Bool

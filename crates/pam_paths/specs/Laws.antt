@@ -4,7 +4,7 @@ use Rattle.pam_conf.specs.Stack.{Items}
 use Rattle.pam_dispatch.specs.Decision.{decision_of}
 use Rattle.pam_dispatch.specs.Runs.{Assignment, AsksRise, Runs, final_state}
 use Rattle.pam_dispatch.specs.Tree.{runs_of_stack}
-use Rattle.pam_paths.specs.Classes.{Member}
+use Rattle.pam_text.specs.Members.{Member}
 use Rattle.pam_paths.specs.Paths.{Agrees, PathValue, key, path_of, path_through}
 use Rattle.pam_paths.specs.Listing.{Allowance, IsAllowed, IsLawful, IsListing, IsListingAfter, IsListingBefore, anything, can_follow}
 use Rattle.pam_paths.specs.Cursor.{Verdict, HasVerdict}

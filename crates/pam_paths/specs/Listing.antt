@@ -2,7 +2,7 @@
 use Rattle.std.specs.Prelude.{◌≡◌, ◌↔◌, ℕ, ◌<◌, ◌≤◌, Bool, true, List}
 use Rattle.std.specs.List.{list_any, list_all}
 use Rattle.pam_dispatch.specs.Runs.{Assignment}
-use Rattle.pam_paths.specs.Classes.{Member}
+use Rattle.pam_text.specs.Members.{Member}
 use Rattle.pam_paths.specs.Paths.{PathValue, key, Precedes, IsRising, IsFalling}
 
 -- whether a module, by its number, may answer a code

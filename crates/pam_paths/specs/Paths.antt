@@ -5,7 +5,8 @@ use Rattle.pam_dispatch.specs.Decision.{decision_of}
 use Rattle.pam_dispatch.specs.Runs.{Ask, Assignment, Runs, asked_by, final_state}
 use Rattle.pam_dispatch.specs.State.{start_state}
 use Rattle.pam_dispatch.specs.Tree.{asked, decided}
-use Rattle.pam_paths.specs.Classes.{Member, class_of, least}
+use Rattle.pam_text.specs.Members.{Member}
+use Rattle.pam_paths.specs.Classes.{class_of, least}
 
 -- the value of a step: the module asked, and the class of its answer
 pub record StepValue : Type 0 where

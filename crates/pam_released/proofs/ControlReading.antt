@@ -8,16 +8,14 @@ use Rattle.pam_codes.specs.declared.action.Action.{Action}
 use Rattle.pam_codes.specs.declared.action.Action.TheVariants.{Bad}
 use Rattle.pam_codes.specs.declared.subject.Subject.{Subject}
 use Rattle.pam_codes.proofs.Overlay.{actions_after, actions_after-start}
-use Rattle.pam_released.specs.Control.{action_at, after_spaces, equals_at, pairs_at, pairs_from, released_actions, subject_at, then_some, written}
+use Rattle.pam_released.specs.Control.{action_at, after_spaces, all_bad, equals_at, pairs_at, pairs_from, released_actions, subject_at, then_some, written}
 use Rattle.pam_released.specs.inner.Pair.{pair_at}
 use Rattle.pam_released.proofs.ControlTokens.{all_alike, same_action_of}
 
-abbrev pub bads : List Action
-bads = map (λ code. Bad) all_codes
-
-pub all_bad : map (λ code. unwrap_or (get_or (replicate 31 None) code None) Bad) all_codes ≡ bads
+-- without a name, each code is bad
+pub no_names : map (λ code. unwrap_or (get_or (replicate 31 None) code None) Bad) all_codes ≡ all_bad
 unfolding all_codes
-all_bad = refl
+no_names = refl
 
 -- the pairs of the rest of a text, which does not begin with a blank
 abbrev pub left : ℕ → List ℕ → Option Pairs
@@ -25,15 +23,15 @@ left n rest = pairs_from (λ r. pairs_at n r) rest
 
 -- the actions of the pairs that are read and those that are left
 abbrev pub told : List (Option Action) → Option Action → Option Pairs → List Action
-told named default pairs = option_map_or (actions_after named default) pairs bads
+told named default pairs = option_map_or (actions_after named default) pairs all_bad
 
-in_words : (o : Option Pairs) → option_map_or (λ ps. map (λ code. unwrap_or (written code None ps) Bad) all_codes) o bads ≡
-    option_map_or actions_of o bads
+in_words : (o : Option Pairs) → option_map_or (λ ps. map (λ code. unwrap_or (written code None ps) Bad) all_codes) o all_bad ≡
+    option_map_or actions_of o all_bad
 unfolding actions_of
 in_words None = refl
 in_words (Some ps) = all_alike (λ code. unwrap_or (written code None ps) Bad) (action_of ps) (same_action_of ps) all_codes
 
-started : (o : Option Pairs) → told (replicate 31 None) None o ≡ option_map_or actions_of o bads
+started : (o : Option Pairs) → told (replicate 31 None) None o ≡ option_map_or actions_of o all_bad
 started None = refl
 started (Some ps) = actions_after-start ps
 
@@ -46,9 +44,9 @@ pub told_first : (inside rest : List ℕ) (fuel : ℕ) → fuel ≡ length insid
 unfolding released_actions
 told_first inside rest fuel is skipped =
     started (left fuel rest)
-    ∙ ap (λ (r : List ℕ). option_map_or actions_of (left fuel r) bads) skipped
-    ∙ ap (λ (o : Option Pairs). option_map_or actions_of o bads) (sym (at_step fuel inside))
-    ∙ ap (λ (k : ℕ). option_map_or actions_of (pairs_at k inside) bads)
+    ∙ ap (λ (r : List ℕ). option_map_or actions_of (left fuel r) all_bad) skipped
+    ∙ ap (λ (o : Option Pairs). option_map_or actions_of o all_bad) (sym (at_step fuel inside))
+    ∙ ap (λ (k : ℕ). option_map_or actions_of (pairs_at k inside) all_bad)
     (let more : suc fuel ≡ length inside + 1 = omega (arith, is) in more)
     ∙ sym (in_words (pairs_at (length inside + 1) inside))
 
@@ -79,7 +77,7 @@ by_pair next b bs = by_subject (subject_at (b ∷ bs))
     by_subject (Some s) = by_sign s.0 (equals_at (after_spaces s.1))
 
 pub told_fault : (named : List (Option Action)) (default : Option Action) (n : ℕ) (rest : List ℕ) (whole : List Action) → (rest ≡ [] → ⊥) →
-    pair_at rest ≡ None → told named default (left n rest) ≡ whole → bads ≡ whole
+    pair_at rest ≡ None → told named default (left n rest) ≡ whole → all_bad ≡ whole
 told_fault named default n [] whole some none h = absurd (some refl)
 told_fault named default n (b ∷ bs) whole some none h =
     sym (ap (told named default) (by_pair (λ r. pairs_at n r) b bs

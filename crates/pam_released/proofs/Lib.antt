@@ -24,6 +24,7 @@ pub mod RuleReadings
 pub mod RuleSteps
 pub mod Scanning
 pub mod Silence
+pub mod TablesProofs
 pub mod Unnumbered
 pub mod WordTexts
 pub mod Words

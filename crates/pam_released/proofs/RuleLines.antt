@@ -16,12 +16,11 @@ use Rattle.pam_conf.specs.declared.error.FaultKind.{FaultKind}
 use Rattle.pam_conf.specs.declared.error.RuleFault.{RuleFault}
 use Rattle.pam_conf.specs.declared.rule.Form.{Form}
 use Rattle.pam_conf.proofs.Splits.{is_split}
-use Rattle.pam_released.specs.Control.{then_some}
 use Rattle.pam_released.specs.Findings.{findings_of, from_control, has_capital, has_empty_name, located, rule_differences, rule_findings}
 use Rattle.pam_released.specs.Findings.{words_or_none}
 use Rattle.pam_released.specs.Laws.{SameRules}
 use Rattle.pam_released.specs.Lines.{filled, manual_lines_of, physical_lines}
-use Rattle.pam_released.specs.Rules.{Reading, line_reading, line_readings, reading_of, rules_152, rules_170}
+use Rattle.pam_released.specs.Rules.{Reading, line_reading, reading_of, rules_152, rules_170}
 use Rattle.pam_released.specs.declared.difference.Difference.TheVariants.{CapitalInBrackets, EmptyModuleName}
 use Rattle.pam_released.proofs.Lines152.{IsEnd, ended}
 use Rattle.pam_released.proofs.Lines152 as lines
@@ -159,7 +158,7 @@ onto (Ok (Some r)) (Err f) rules h = absurd (cc)
 pub record Read (form : Form) (lines : List (List ℕ)) (rules : List RuleText) : Type 0 where
   pub words : List (List (List ℕ))
   pub cut : map words_of (filled lines) ≡ map (λ ws. Some ws) words
-  pub readings : line_readings form (map (map text_of_word) words) ≡ Some (map reading_of rules)
+  pub readings : map (line_reading form) (map (map text_of_word) words) ≡ map reading_of rules
 
 no_rule_of : (form : Form) (n : ℕ) (o : Option RuleText) → rule_of form n [] ≡ Ok o → o ≡ None
 unfolding rule_of
@@ -183,15 +182,6 @@ skip_blank line ls h = rw h refl
 keep_filled : (line : List ℕ) (ls : List (List ℕ)) → list_all is_blank line ≡ false → filled (line ∷ ls) ≡ line ∷ filled ls
 unfolding filled
 keep_filled line ls h = rw h refl
-
-no_readings : (form : Form) → line_readings form [] ≡ Some []
-unfolding line_readings
-no_readings form = refl
-
-one_reading : (form : Form) (words : List (List ℕ)) (lines : List (List (List ℕ))) (r : Reading) (rs : List Reading) → line_reading form words ≡ Some r →
-    line_readings form lines ≡ Some rs → line_readings form (words ∷ lines) ≡ Some (r ∷ rs)
-unfolding line_readings
-one_reading form words lines r rs h k = rw (h, k) refl
 
 no_lines_filled : filled [] ≡ []
 unfolding filled
@@ -222,7 +212,7 @@ add_line form n line lines [] o rules more w r d is others =
     record {
       words = others.words;
       cut = ap (map words_of) (skip_blank line lines (no_words_blank (is_split line [] w) refl)) ∙ others.cut;
-      readings = others.readings ∙ ap (λ (q : List RuleText). Some (map reading_of q)) (sym same);
+      readings = others.readings ∙ ap (map reading_of) (sym same);
     }
 add_line form n line lines (v ∷ ws) o rules more w r d is others =
     let s = some_rule form n v ws o r in
@@ -234,9 +224,9 @@ add_line form n line lines (v ∷ ws) o rules more w r d is others =
       cut = ap (map words_of) (keep_filled line lines (not_blank line v ws w))
           ∙ ap (λ (p : Option (List (List ℕ))). p ∷ map words_of (filled lines)) w
           ∙ ap (λ (p : List (Option (List (List ℕ)))). Some (v ∷ ws) ∷ p) others.cut;
-      readings = one_reading form (map text_of_word (v ∷ ws)) (map (map text_of_word) others.words) (reading_of s.rule) (map reading_of more)
-          (first_alike form n v ws s.rule spelt.1 s.first none.capital none.name) others.readings
-          ∙ ap (λ (q : List RuleText). Some (map reading_of q)) (sym same);
+      readings = ap (λ (r : Reading). r ∷ map (line_reading form) (map (map text_of_word) others.words))
+          (first_alike form n v ws s.rule spelt.1 s.first none.capital none.name)
+          ∙ ap (λ (rs : List Reading). reading_of s.rule ∷ rs) others.readings ∙ ap (map reading_of) (sym same);
     }
 
 rules_read : (form : Form) (ls : List (List FileByte)) (rules : List RuleText) → rules_in form ls ≡ Ok rules →
@@ -244,7 +234,7 @@ rules_read : (form : Form) (ls : List (List FileByte)) (rules : List RuleText) �
 rules_read form [] rules h q = record {
   words = [];
   cut = ap (map words_of) no_lines_filled;
-  readings = no_readings form ∙ ap (λ (r : List RuleText). Some (map reading_of r)) (sym (no_lines_in form rules h));
+  readings = ap (map reading_of) (sym (no_lines_in form rules h));
 }
 rules_read form (line ∷ ls) rules h q =
     let o = onto (rule_at form line) (rules_in form ls) rules (sym (first_in form line ls) ∙ h) in
@@ -273,8 +263,9 @@ unfolding rules_152
 by_152 form bytes rules h r =
     let s = silent form bytes h in
     let f = file_read form bytes rules r s.rules in
-    ap (λ (o : Option (List (List (List ℕ)))). then_some o (line_readings form))
-    (ap (option_map (map released_words)) (unseen bytes s.short) ∙ file_words_152 bytes f.words s.lines f.cut) ∙ f.readings
+    ap (option_map (map (line_reading form)))
+    (ap (option_map (map released_words)) (unseen bytes s.short) ∙ file_words_152 bytes f.words s.lines f.cut)
+    ∙ ap (λ (rs : List Reading). Some rs) f.readings
 
 -- and by 1.7.0
 by_170 : (form : Form) (bytes : List ℕ) (rules : List RuleText) → findings_of form bytes ≡ [] → rules_of form bytes ≡ Ok rules →
@@ -283,7 +274,7 @@ unfolding rules_170
 by_170 form bytes rules h r =
     let s = silent form bytes h in
     let f = file_read form bytes rules r s.rules in
-    ap (λ (o : Option (List (List (List ℕ)))). then_some o (line_readings form)) (file_words_170 bytes f.words s.lines s.blanks f.cut) ∙ f.readings
+    ap (option_map (map (line_reading form))) (file_words_170 bytes f.words s.lines s.blanks f.cut) ∙ ap (λ (rs : List Reading). Some rs) f.readings
 
 pub same_rules : (form : Form) (bytes : List ℕ) → findings_of form bytes ≡ [] → SameRules form bytes
 same_rules form bytes h = λ rules r. (by_152 form bytes rules h r, by_170 form bytes rules h r)

@@ -15,8 +15,8 @@ use Rattle.pam_conf.specs.declared.rule.Form.TheVariants.{Dir, Single}
 use Rattle.pam_conf.specs.declared.rule.Kind.{Kind}
 use Rattle.pam_conf.specs.declared.rule.Kind.TheVariants.{Auth, Account, Password, Session}
 use Rattle.pam_released.specs.Findings.{from_control, has_capital, has_empty_name, past_kind}
-use Rattle.pam_released.specs.Rules.{control_reading, kind_reading, line_reading, reading_of, target_reading, typed_reading, undashed}
-use Rattle.pam_released.proofs.RuleSteps.{AllSpelled, bound, control_alike, target_alike}
+use Rattle.pam_released.specs.Rules.{at_include_reading, control_body, kind_reading, line_reading, reading_of, rule_reading, typed_reading, undashed}
+use Rattle.pam_released.proofs.RuleSteps.{AllSpelled, at_include_alike, bound, control_alike}
 
 -- KINDS
 
@@ -81,12 +81,12 @@ include_undashed (b ∷ bs) h =
 
 -- the words after a kind, and after `@include`
 typed : (s : Option (List ℕ)) (d : Bool) (name : List ℕ) (k : Kind) (words : List (List ℕ)) → kind_named name ≡ Some k →
-    typed_reading s d name words ≡ control_reading s (Some k) d words
+    typed_reading s d name words ≡ kind_reading s k d (control_body words)
 unfolding typed_reading
 typed s d name k words h = rw (kind_no_include name k h, h) refl
 
 typed_include : (s : Option (List ℕ)) (d : Bool) (name : List ℕ) (words : List (List ℕ)) → same_name (codes "@include") name ≡ true →
-    typed_reading s d name words ≡ target_reading Include s None d words
+    typed_reading s d name words ≡ at_include_reading s d words
 unfolding typed_reading
 typed_include s d name words h = rw h refl
 
@@ -94,7 +94,7 @@ typed_include s d name words h = rw h refl
 
 kind_alike : (form : Form) (n : ℕ) (s : Option (List ℕ)) (kind : List ℕ) (words : List (List ℕ)) (rule : RuleText) →
     kind_rule_of form n s kind words ≡ Ok rule → AllSpelled words → has_capital words ≡ false → has_empty_name words ≡ false →
-    kind_reading s (kind ∷ map text_of_word words) ≡ Some (reading_of rule)
+    rule_reading s (kind ∷ map text_of_word words) ≡ reading_of rule
 unfolding kind_rule_of
 kind_alike form n s kind words rule h sp capital empty =
     let b = bound (dashed_kind_of kind) (λ k. body_of form words >>= λ body.
@@ -104,11 +104,11 @@ kind_alike form n s kind words rule h sp capital empty =
     let d = dashed kind b.x b.is in
     ap (λ (p : Bool × List ℕ). typed_reading s p.0 p.1 (map text_of_word words)) d.split
     ∙ typed s b.x.0 d.name b.x.1 (map text_of_word words) d.named
-    ∙ control_alike form s (Some b.x.1) b.x.0 words c.x sp c.is capital empty
-    ∙ ap (λ (r : RuleText). Some (reading_of r)) is
+    ∙ ap (kind_reading s b.x.1 b.x.0) (control_alike form words c.x sp c.is capital empty)
+    ∙ ap reading_of is
 
 include_alike : (form : Form) (n : ℕ) (t : List ℕ) (words : List (List ℕ)) (rule : RuleText) → same_name (codes "@include") t ≡ true →
-    include_rule_of form n words ≡ Ok rule → line_reading form (t ∷ map text_of_word words) ≡ Some (reading_of rule)
+    include_rule_of form n words ≡ Ok rule → line_reading form (t ∷ map text_of_word words) ≡ reading_of rule
 unfolding include_rule_of target_of
 include_alike Single n t words rule i h = absurd (cc)
 include_alike Dir n t words rule i h =
@@ -117,12 +117,12 @@ include_alike Dir n t words rule i h =
     let is : record { line = n; service = None; kind = None; dashed = false; body = Include b.x } ≡ rule = cc b.then in
     ap (λ (p : Bool × List ℕ). typed_reading None p.0 p.1 (map text_of_word words)) (include_undashed t i)
     ∙ typed_include None false t (map text_of_word words) i
-    ∙ target_alike Include Dir None None false words b.x b.is
-    ∙ ap (λ (r : RuleText). Some (reading_of r)) is
+    ∙ at_include_alike Dir words b.x b.is
+    ∙ ap reading_of is
 
 plain_alike : (form : Form) (n : ℕ) (t : List ℕ) (words : List (List ℕ)) (rule : RuleText) → plain_rule_of form n t words ≡ Ok rule →
     AllSpelled words → has_capital (past_kind form words) ≡ false → has_empty_name (past_kind form words) ≡ false →
-    line_reading form (t ∷ map text_of_word words) ≡ Some (reading_of rule)
+    line_reading form (t ∷ map text_of_word words) ≡ reading_of rule
 unfolding plain_rule_of
 plain_alike Dir n t words rule h sp capital empty = kind_alike Dir n None t words rule h sp capital empty
 plain_alike Single n t [] rule h sp capital empty = absurd (cc)
@@ -131,13 +131,13 @@ plain_alike Single n t (kind ∷ words) rule h sp capital empty =
 
 pub first_alike : (form : Form) (n : ℕ) (w : List ℕ) (words : List (List ℕ)) (rule : RuleText) → AllSpelled words →
     first_rule_of form n (text_of_word w) words ≡ Ok rule → has_capital (from_control form (w ∷ words)) ≡ false →
-    has_empty_name (from_control form (w ∷ words)) ≡ false → line_reading form (map text_of_word (w ∷ words)) ≡ Some (reading_of rule)
+    has_empty_name (from_control form (w ∷ words)) ≡ false → line_reading form (map text_of_word (w ∷ words)) ≡ reading_of rule
 unfolding first_rule_of from_control
 first_alike form n w words rule sp h capital empty =
     elim (same_name (codes "@include") (text_of_word w)) as (λ (t : Bool). same_name (codes "@include") (text_of_word w) ≡ t →
     cond t (include_rule_of form n words) (plain_rule_of form n (text_of_word w) words) ≡ Ok rule →
     has_capital (cond t [] (past_kind form words)) ≡ false → has_empty_name (cond t [] (past_kind form words)) ≡ false →
-    line_reading form (text_of_word w ∷ map text_of_word words) ≡ Some (reading_of rule)) [
+    line_reading form (text_of_word w ∷ map text_of_word words) ≡ reading_of rule) [
       | true ↦ λ i r c e. include_alike form n (text_of_word w) words rule i r
       | false ↦ λ i r c e. plain_alike form n (text_of_word w) words rule r sp c e
     ] refl h capital empty

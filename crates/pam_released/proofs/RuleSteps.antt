@@ -17,11 +17,9 @@ use Rattle.pam_conf.specs.declared.error.FaultKind.{FaultKind}
 use Rattle.pam_conf.specs.declared.error.FaultKind.TheVariants as faults
 use Rattle.pam_conf.specs.declared.rule.Form.{Form}
 use Rattle.pam_conf.specs.declared.rule.Form.TheVariants.{Dir, Single}
-use Rattle.pam_conf.specs.declared.rule.Kind.{Kind}
 use Rattle.pam_released.specs.Control.{released_actions}
-use Rattle.pam_released.specs.Findings.{has_capital, has_empty_name, is_no_name, module_name, names_target}
-use Rattle.pam_released.specs.Rules.{control_actions, control_reading, module_reading, reads}
-use Rattle.pam_released.specs.Rules.{target_reading}
+use Rattle.pam_released.specs.Findings.{has_capital, has_empty_name, is_no_name, module_name}
+use Rattle.pam_released.specs.Rules.{Body, at_include_reading, control_actions, control_body, include_body, module_body, reads, substack_body}
 use Rattle.pam_released.proofs.Controls.{controls_alike}
 use Rattle.pam_released.proofs.Insides.{bracket_read, inside_lower, inside_plain, no_keyword}
 use Rattle.pam_released.proofs.Words.{bracket_text, plain_text}
@@ -55,28 +53,47 @@ name_is (b ∷ bs) name h =
       | false ↦ λ e. cc
     ] h
 
-pub target_alike : (f : List ℕ → RuleBody) (form : Form) (s : Option (List ℕ)) (k : Option Kind) (d : Bool) (words : List (List ℕ)) (t : List ℕ) →
-    target_of form words ≡ Ok t → target_reading f s k d (map text_of_word words) ≡ Some (reads s k d (f t))
+pub include_alike : (form : Form) (words : List (List ℕ)) (t : List ℕ) → target_of form words ≡ Ok t →
+    include_body (map text_of_word words) ≡ Body (Include t)
 unfolding target_of
-target_alike f Single s k d words t h = absurd (cc)
-target_alike f Dir s k d [] t h = absurd (cc)
-target_alike f Dir s k d (word ∷ words) t h =
-    ap (λ (n : List ℕ). Some (reads s k d (f n))) (name_is (without_folder_of (text_of_word word)) t h)
+include_alike Single words t h = absurd (cc)
+include_alike Dir [] t h = absurd (cc)
+include_alike Dir (word ∷ words) t h = ap (λ (n : List ℕ). Body (Include n)) (name_is (without_folder_of (text_of_word word)) t h)
 
--- MODULES
+pub at_include_alike : (form : Form) (words : List (List ℕ)) (t : List ℕ) → target_of form words ≡ Ok t →
+    at_include_reading None false (map text_of_word words) ≡ reads None None false (Include t)
+unfolding target_of
+at_include_alike Single words t h = absurd (cc)
+at_include_alike Dir [] t h = absurd (cc)
+at_include_alike Dir (word ∷ words) t h =
+    ap (λ (n : List ℕ). reads None None false (Include n)) (name_is (without_folder_of (text_of_word word)) t h)
+
+-- MODULES, AND SUBSTACKS
 
 last_false : (t u : Bool) → t ≡ false → (not t && u) ≡ false → u ≡ false
 last_false true u e h = absurd (cc)
 last_false false u e h = h
 
-module_alike : (actions : List Action) (s : Option (List ℕ)) (k : Option Kind) (d : Bool) (control : List ℕ) (words : List (List ℕ)) (body : RuleBody) →
-    module_of actions words ≡ Ok body → names_target control ≡ false → has_empty_name (control ∷ words) ≡ false →
-    module_reading actions s k d (map text_of_word words) ≡ Some (reads s k d body)
-module_alike actions s k d control [] body h n e = absurd (cc)
-module_alike actions s k d control (path ∷ arguments) body h n e =
-    let named : is_no_name (module_name (text_of_word path)) ≡ false = last_false (names_target control) (is_no_name (module_name (text_of_word path))) n e in
+module_alike : (actions : List Action) (control : List ℕ) (words : List (List ℕ)) (body : RuleBody) →
+    module_of actions words ≡ Ok body → same_name (codes "include") control ≡ false → has_empty_name (control ∷ words) ≡ false →
+    module_body actions (map text_of_word words) ≡ Body body
+module_alike actions control [] body h n e = absurd (cc)
+module_alike actions control (path ∷ arguments) body h n e =
+    let named : is_no_name (module_name (text_of_word path)) ≡ false =
+    last_false (same_name (codes "include") control) (is_no_name (module_name (text_of_word path))) n e in
     let is : Module actions (text_of_word path) (map text_of_word arguments) ≡ body = cc in
-    rw named (ap (λ (b : RuleBody). Some (reads s k d b)) is)
+    rw named (ap Body is)
+
+substack_alike : (form : Form) (control : List ℕ) (words : List (List ℕ)) (t : List ℕ) →
+    target_of form words ≡ Ok t → same_name (codes "include") control ≡ false → has_empty_name (control ∷ words) ≡ false →
+    substack_body (map text_of_word words) ≡ Body (Sub t)
+unfolding target_of
+substack_alike Single control words t h n e = absurd (cc)
+substack_alike Dir control [] t h n e = absurd (cc)
+substack_alike Dir control (target ∷ words) t h n e =
+    let named : is_no_name (module_name (text_of_word target)) ≡ false =
+    last_false (same_name (codes "include") control) (is_no_name (module_name (text_of_word target))) n e in
+    rw named (ap (λ (n : List ℕ). Body (Sub n)) (name_is (without_folder_of (text_of_word target)) t h))
 
 -- CONTROLS
 
@@ -123,20 +140,19 @@ inside_read inside actions i h capital =
     }
 
 -- the words after the kind, where the control is not `include` or `substack`
-other_control : (s : Option (List ℕ)) (k : Option Kind) (d : Bool) (text : List ℕ) (words : List (List ℕ)) → same_name (codes "include") text ≡ false →
-    same_name (codes "substack") text ≡ false → control_reading s k d (text ∷ words) ≡ module_reading (control_actions text) s k d words
-unfolding control_reading
-other_control s k d text words i u = rw (i, u) refl
+other_control : (text : List ℕ) (words : List (List ℕ)) → same_name (codes "include") text ≡ false →
+    same_name (codes "substack") text ≡ false → control_body (text ∷ words) ≡ module_body (control_actions text) words
+unfolding control_body
+other_control text words i u = rw (i, u) refl
 
-is_include : (s : Option (List ℕ)) (k : Option Kind) (d : Bool) (text : List ℕ) (words : List (List ℕ)) → same_name (codes "include") text ≡ true →
-    control_reading s k d (text ∷ words) ≡ target_reading Include s k d words
-unfolding control_reading
-is_include s k d text words i = rw i refl
+is_include : (text : List ℕ) (words : List (List ℕ)) → same_name (codes "include") text ≡ true → control_body (text ∷ words) ≡ include_body words
+unfolding control_body
+is_include text words i = rw i refl
 
-is_substack : (s : Option (List ℕ)) (k : Option Kind) (d : Bool) (text : List ℕ) (words : List (List ℕ)) → same_name (codes "include") text ≡ false →
-    same_name (codes "substack") text ≡ true → control_reading s k d (text ∷ words) ≡ target_reading Sub s k d words
-unfolding control_reading
-is_substack s k d text words i u = rw (i, u) refl
+is_substack : (text : List ℕ) (words : List (List ℕ)) → same_name (codes "include") text ≡ false →
+    same_name (codes "substack") text ≡ true → control_body (text ∷ words) ≡ substack_body words
+unfolding control_body
+is_substack text words i u = rw (i, u) refl
 
 -- the same by the manual pages
 other_body : (form : Form) (control : List ℕ) (words : List (List ℕ)) → same_name (codes "include") control ≡ false →
@@ -144,72 +160,69 @@ other_body : (form : Form) (control : List ℕ) (words : List (List ℕ)) → sa
 unfolding body_of
 other_body form control words i u = rw (i, u) refl
 
-include_body : (form : Form) (control : List ℕ) (words : List (List ℕ)) → same_name (codes "include") control ≡ true →
+body_of_include : (form : Form) (control : List ℕ) (words : List (List ℕ)) → same_name (codes "include") control ≡ true →
     body_of form (control ∷ words) ≡ (target_of form words >>= λ t. Ok (Include t))
 unfolding body_of
-include_body form control words i = rw i refl
+body_of_include form control words i = rw i refl
 
-substack_body : (form : Form) (control : List ℕ) (words : List (List ℕ)) → same_name (codes "include") control ≡ false →
+body_of_substack : (form : Form) (control : List ℕ) (words : List (List ℕ)) → same_name (codes "include") control ≡ false →
     same_name (codes "substack") control ≡ true → body_of form (control ∷ words) ≡ (target_of form words >>= λ t. Ok (Sub t))
 unfolding body_of
-substack_body form control words i u = rw (i, u) refl
-
-no_target : (control : List ℕ) → same_name (codes "include") control ≡ false → same_name (codes "substack") control ≡ false → names_target control ≡ false
-no_target control i u = rw (i, u) refl
+body_of_substack form control words i u = rw (i, u) refl
 
 -- a control in brackets is no keyword as it is written
 bracket_name : (n b : ℕ) (ns inside : List ℕ) → eqb (to_ascii_lowercase n) 91 ≡ false → same_name (n ∷ ns) (91 ∷ inside) ≡ false
 bracket_name n b ns inside h = rw h refl
 
-bracket_alike : (form : Form) (s : Option (List ℕ)) (k : Option Kind) (d : Bool) (inside : List ℕ) (words : List (List ℕ)) (body : RuleBody) →
+bracket_alike : (form : Form) (inside : List ℕ) (words : List (List ℕ)) (body : RuleBody) →
     is_inside false inside ≡ true → body_of form ((91 ∷ inside ++ 93 ∷ []) ∷ words) ≡ Ok body →
     has_capital ((91 ∷ inside ++ 93 ∷ []) ∷ words) ≡ false → has_empty_name ((91 ∷ inside ++ 93 ∷ []) ∷ words) ≡ false →
-    control_reading s k d (text_of_word (91 ∷ inside ++ 93 ∷ []) ∷ map text_of_word words) ≡ Some (reads s k d body)
-bracket_alike form s k d inside words body i h capital empty =
+    control_body (text_of_word (91 ∷ inside ++ 93 ∷ []) ∷ map text_of_word words) ≡ Body body
+bracket_alike form inside words body i h capital empty =
     let raw : List ℕ = 91 ∷ inside ++ 93 ∷ [] in
     let b = bound (control_or_fault (91 ∷ inside ++ 93 ∷ [])) (λ a. module_of a words) body
     (sym (other_body form (91 ∷ inside ++ 93 ∷ []) words refl refl) ∙ h) in
     let r = inside_read inside b.x i (checked (control_of (91 ∷ inside ++ 93 ∷ [])) b.x b.is) capital in
-    ap (λ (t : List ℕ). control_reading s k d (t ∷ map text_of_word words)) (bracket_text inside ∙ r.text)
-    ∙ other_control s k d inside (map text_of_word words) r.include r.substack
-    ∙ ap (λ (a : List Action). module_reading a s k d (map text_of_word words)) r.acts
-    ∙ module_alike b.x s k d (91 ∷ inside ++ 93 ∷ []) words body b.then refl empty
+    ap (λ (t : List ℕ). control_body (t ∷ map text_of_word words)) (bracket_text inside ∙ r.text)
+    ∙ other_control inside (map text_of_word words) r.include r.substack
+    ∙ ap (λ (a : List Action). module_body a (map text_of_word words)) r.acts
+    ∙ module_alike b.x (91 ∷ inside ++ 93 ∷ []) words body b.then refl empty
 
-bare_alike : (form : Form) (s : Option (List ℕ)) (k : Option Kind) (d : Bool) (c : ℕ) (cs : List ℕ) (words : List (List ℕ)) (body : RuleBody) →
+bare_alike : (form : Form) (c : ℕ) (cs : List ℕ) (words : List (List ℕ)) (body : RuleBody) →
     eqb c 91 ≡ false → body_of form ((c ∷ cs) ∷ words) ≡ Ok body → has_empty_name ((c ∷ cs) ∷ words) ≡ false →
-    control_reading s k d ((c ∷ cs) ∷ map text_of_word words) ≡ Some (reads s k d body)
-bare_alike form s k d c cs words body n h empty =
+    control_body ((c ∷ cs) ∷ map text_of_word words) ≡ Body body
+bare_alike form c cs words body n h empty =
     elim (same_name (codes "include") (c ∷ cs)) as (λ (t : Bool). same_name (codes "include") (c ∷ cs) ≡ t →
-    control_reading s k d ((c ∷ cs) ∷ map text_of_word words) ≡ Some (reads s k d body)) [
+    control_body ((c ∷ cs) ∷ map text_of_word words) ≡ Body body) [
       | true ↦ λ i.
-          let b = bound (target_of form words) (λ t. Ok (Include t)) body (sym (include_body form (c ∷ cs) words i) ∙ h) in
+          let b = bound (target_of form words) (λ t. Ok (Include t)) body (sym (body_of_include form (c ∷ cs) words i) ∙ h) in
           let is : Include b.x ≡ body = cc b.then in
-          is_include s k d (c ∷ cs) (map text_of_word words) i ∙ target_alike Include form s k d words b.x b.is
-          ∙ ap (λ (r : RuleBody). Some (reads s k d r)) is
+          is_include (c ∷ cs) (map text_of_word words) i ∙ include_alike form words b.x b.is
+          ∙ ap Body is
       | false ↦ λ i. elim (same_name (codes "substack") (c ∷ cs)) as (λ (t : Bool). same_name (codes "substack") (c ∷ cs) ≡ t →
-          control_reading s k d ((c ∷ cs) ∷ map text_of_word words) ≡ Some (reads s k d body)) [
+          control_body ((c ∷ cs) ∷ map text_of_word words) ≡ Body body) [
             | true ↦ λ u.
-                let b = bound (target_of form words) (λ t. Ok (Sub t)) body (sym (substack_body form (c ∷ cs) words i u) ∙ h) in
+                let b = bound (target_of form words) (λ t. Ok (Sub t)) body (sym (body_of_substack form (c ∷ cs) words i u) ∙ h) in
                 let is : Sub b.x ≡ body = cc b.then in
-                is_substack s k d (c ∷ cs) (map text_of_word words) i u ∙ target_alike Sub form s k d words b.x b.is
-                ∙ ap (λ (r : RuleBody). Some (reads s k d r)) is
+                is_substack (c ∷ cs) (map text_of_word words) i u ∙ substack_alike form (c ∷ cs) words b.x b.is i empty
+                ∙ ap Body is
             | false ↦ λ u.
                 let b = bound (control_or_fault (c ∷ cs)) (λ a. module_of a words) body (sym (other_body form (c ∷ cs) words i u) ∙ h) in
-                other_control s k d (c ∷ cs) (map text_of_word words) i u
-                ∙ ap (λ (a : List Action). module_reading a s k d (map text_of_word words)) (bare_actions c cs b.x n (checked (control_of (c ∷ cs)) b.x b.is))
-                ∙ module_alike b.x s k d (c ∷ cs) words body b.then (no_target (c ∷ cs) i u) empty
+                other_control (c ∷ cs) (map text_of_word words) i u
+                ∙ ap (λ (a : List Action). module_body a (map text_of_word words)) (bare_actions c cs b.x n (checked (control_of (c ∷ cs)) b.x b.is))
+                ∙ module_alike b.x (c ∷ cs) words body b.then i empty
           ] refl
     ] refl
 
-pub control_alike : (form : Form) (s : Option (List ℕ)) (k : Option Kind) (d : Bool) (words : List (List ℕ)) (body : RuleBody) → AllSpelled words →
+pub control_alike : (form : Form) (words : List (List ℕ)) (body : RuleBody) → AllSpelled words →
     body_of form words ≡ Ok body → has_capital words ≡ false → has_empty_name words ≡ false →
-    control_reading s k d (map text_of_word words) ≡ Some (reads s k d body)
+    control_body (map text_of_word words) ≡ Body body
 unfolding body_of
-control_alike form s k d [] body sp h c e = absurd (cc)
-control_alike form s k d (control ∷ words) body sp h c e = by_spelling control sp.0 h c e
+control_alike form [] body sp h c e = absurd (cc)
+control_alike form (control ∷ words) body sp h c e = by_spelling control sp.0 h c e
   where
     by_spelling : (w : List ℕ) → Spelled w → body_of form (w ∷ words) ≡ Ok body → has_capital (w ∷ words) ≡ false → has_empty_name (w ∷ words) ≡ false →
-        control_reading s k d (text_of_word w ∷ map text_of_word words) ≡ Some (reads s k d body)
-    by_spelling w (brackets inside i) g cap emp = bracket_alike form s k d inside words body i g cap emp
+        control_body (text_of_word w ∷ map text_of_word words) ≡ Body body
+    by_spelling w (brackets inside i) g cap emp = bracket_alike form inside words body i g cap emp
     by_spelling w (bare b bs n) g cap emp =
-        ap (λ (t : List ℕ). control_reading s k d (t ∷ map text_of_word words)) (plain_text b bs n) ∙ bare_alike form s k d b bs words body n g emp
+        ap (λ (t : List ℕ). control_body (t ∷ map text_of_word words)) (plain_text b bs n) ∙ bare_alike form b bs words body n g emp

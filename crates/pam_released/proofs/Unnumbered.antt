@@ -3,11 +3,10 @@ use Rattle.std.proofs.Common.{◌≡◌, ◌+◌, ◌++◌, ◌∙◌, ℕ, Bool
 use Rattle.std.specs.Option.{option_map}
 use Rattle.pam_conf.specs.declared.rule.Form.{Form}
 use Rattle.pam_released.specs.Buffer.{at_end, buffered, piece_read}
-use Rattle.pam_released.specs.Control.{then_some}
 use Rattle.pam_released.specs.Lines.{before_hash, front_part, goes_on, is_blank_line, lines_170, not_empty, onto_line, physical_lines, without_start_blanks}
 use Rattle.pam_released.specs.Numbered.{NumberedLine, numbered_152, numbered_170, numbered_end, numbered_piece, with_line}
-use Rattle.pam_released.specs.Readings.{NumberedRule, numbered_readings, numbered_rules, rules_by}
-use Rattle.pam_released.specs.Rules.{Reading, line_reading, line_readings, rules_152, rules_170}
+use Rattle.pam_released.specs.Readings.{NumberedRule, numbered_reading, numbered_rules, rules_by}
+use Rattle.pam_released.specs.Rules.{Reading, line_reading, rules_152, rules_170}
 use Rattle.pam_released.specs.Words.{released_words}
 use Rattle.pam_released.proofs.Buffer.{onto_twice, with_got}
 use Rattle.pam_released.specs.declared.release.Release.{Release}
@@ -154,26 +153,20 @@ lines_alike line start got inside (text ∷ lines) none =
 abbrev readings_only : Option (List NumberedRule) → Option (List Reading)
 readings_only read = option_map (map (λ p. p.1)) read
 
-one_reading : (number : ℕ) (read : Option Reading) (more : Option (List NumberedRule)) (plain : Option (List Reading)) → readings_only more ≡ plain →
-    readings_only (then_some read (λ r. option_map (λ rs. (number, r) ∷ rs) more)) ≡ then_some read (λ r. option_map (λ rs. r ∷ rs) plain)
-one_reading number None more plain h = refl
-one_reading number (Some r) None plain h = ap (option_map (λ rs. r ∷ rs)) h
-one_reading number (Some r) (Some rs) plain h = ap (option_map (λ rs. r ∷ rs)) h
-
 readings_alike : (form : Form) (lines : List NumberedLine) →
-    readings_only (numbered_readings form lines) ≡ line_readings form (map released_words (map (λ p. p.1) lines))
-unfolding numbered_readings line_readings
+    map (λ p. p.1) (map (numbered_reading form) lines) ≡ map (line_reading form) (map released_words (map (λ p. p.1) lines))
 readings_alike form [] = refl
 readings_alike form (line ∷ lines) =
-    one_reading line.0 (line_reading form (released_words line.1)) (numbered_readings form lines) _ (readings_alike form lines)
+    ap (λ (rs : List Reading). line_reading form (released_words line.1) ∷ rs) (readings_alike form lines)
 
 rules_alike : (form : Form) (o : Option (List NumberedLine)) (p : Option (List (List ℕ))) → texts_only o ≡ p →
-    readings_only (then_some o (numbered_readings form)) ≡ then_some (option_map (map released_words) p) (line_readings form)
+    readings_only (option_map (map (numbered_reading form)) o) ≡ option_map (map (line_reading form)) (option_map (map released_words) p)
 rules_alike form None None h = refl
 rules_alike form None (Some ls) h = absurd (cc)
 rules_alike form (Some more) None h = absurd (cc)
 rules_alike form (Some more) (Some ls) h =
-    readings_alike form more ∙ ap (λ (o : Option (List (List ℕ))). then_some (option_map (map released_words) o) (line_readings form)) h
+    ap (λ (rs : List Reading). Some rs) (readings_alike form more)
+    ∙ ap (λ (o : Option (List (List ℕ))). option_map (map (line_reading form)) (option_map (map released_words) o)) h
 
 mapped_twice : (o : Option (List (List ℕ))) →
     option_map (map released_words) (option_map not_empty o) ≡ option_map (λ lines. map released_words (not_empty lines)) o
@@ -187,4 +180,4 @@ unnumbered Older form bytes = rules_alike form (numbered_152 1 1 [] [] false byt
 unnumbered Newer form bytes =
     rules_alike form (numbered_170 1 1 [] false (physical_lines bytes)) (option_map not_empty (lines_170 false (physical_lines bytes)))
     (lines_alike 1 1 [] false (physical_lines bytes) (λ e. refl))
-    ∙ ap (λ (o : Option (List (List (List ℕ)))). then_some o (line_readings form)) (mapped_twice (lines_170 false (physical_lines bytes)))
+    ∙ ap (λ (o : Option (List (List (List ℕ)))). option_map (map (line_reading form)) o) (mapped_twice (lines_170 false (physical_lines bytes)))

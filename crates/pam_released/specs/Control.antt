@@ -86,7 +86,11 @@ written code before ((Named n, a) ∷ ps) = written code (if n == code then Some
 written code before ((Incomplete, a) ∷ ps) = written code before ps
 written code before ((Default, a) ∷ ps) = written code (Some (unwrap_or before a)) ps
 
+-- bad for each code
+abbrev pub all_bad : List Action
+all_bad = map (λ code. Bad) all_codes
+
 -- the 31 actions: bad where nothing was written, and all where the text has a fault
 unfoldable pub released_actions : List ℕ → List Action
-released_actions text = option_map_or (λ ps. map (λ code. unwrap_or (written code None ps) Bad) all_codes) (pairs_at (length text + 1) text)
-    (map (λ code. Bad) all_codes)
+released_actions text =
+    option_map_or (λ ps. map (λ code. unwrap_or (written code None ps) Bad) all_codes) (pairs_at (length text + 1) text) all_bad

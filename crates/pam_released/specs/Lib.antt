@@ -12,3 +12,4 @@ pub mod Readings
 pub mod Rules
 pub mod Words
 pub mod inner
+pub mod tables

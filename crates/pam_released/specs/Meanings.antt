@@ -33,7 +33,7 @@ meaning_of CapitalInBrackets =
 meaning_of LongLine =
     codes "Linux-PAM 1.5.2 cuts a logical line after 1,023 bytes, and takes the rest as a rule that fails, or reads for ever"
 meaning_of EmptyModuleName =
-    codes "Linux-PAM 1.5.2 to 1.7.0 refuses the whole configuration where a module has no name"
+    codes "Linux-PAM 1.5.2 to 1.7.0 refuses the whole configuration where a module or a substack has no name"
 meaning_of DroppedBlank =
     codes "Linux-PAM 1.7.0 drops the blanks that this line begins with, although a word in brackets goes on"
 
@@ -46,5 +46,5 @@ mending_of BackslashComment = codes "remove the comment, or the backslash"
 mending_of EndsInContinuation = codes "remove the backslash"
 mending_of CapitalInBrackets = codes "write what is in brackets in lower case"
 mending_of LongLine = codes "shorten the rule"
-mending_of EmptyModuleName = codes "name the file of the module"
+mending_of EmptyModuleName = codes "give its file a name, also before the last dot"
 mending_of DroppedBlank = codes "write the word in brackets on one line"

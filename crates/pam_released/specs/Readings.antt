@@ -1,12 +1,12 @@
 -- The rules of a file by a release, each with the number of its first line.
-use Rattle.std.specs.Prelude.{ℕ, List, [], ◌∷◌, Option, Some}
+use Rattle.std.specs.Prelude.{ℕ, List, Option, map}
 use Rattle.std.specs.Option.{option_map}
 use Rattle.pam_conf.specs.Rule.{body_view}
 use Rattle.pam_conf.specs.declared.rule.Form.{Form}
-use Rattle.pam_released.specs.Control.{then_some}
 use Rattle.pam_released.specs.Numbered.{NumberedLine, numbered_lines}
-use Rattle.pam_released.specs.Rules.{Fails, LineRule, Reading, Reads, line_reading, rules_152, rules_170}
+use Rattle.pam_released.specs.Rules.{FailingRule, Fails, LineRule, Reading, Reads, Refuses, line_reading, rules_152, rules_170}
 use Rattle.pam_released.specs.Words.{released_words}
+use Rattle.pam_released.specs.declared.reading.FailingRule.{FailingRule as KeptFailing}
 use Rattle.pam_released.specs.declared.reading.LineRule.{LineRule as KeptRule}
 use Rattle.pam_released.specs.declared.reading.NumberedReading.{NumberedReading}
 use Rattle.pam_released.specs.declared.reading.Reading.{Reading as KeptReading}
@@ -23,14 +23,12 @@ rules_by Newer form bytes = rules_170 form bytes
 abbrev pub NumberedRule : Type 0
 NumberedRule = ℕ × Reading
 
-unfoldable pub numbered_readings : Form → List NumberedLine → Option (List NumberedRule)
-numbered_readings form [] = Some []
-numbered_readings form (line ∷ lines) =
-    then_some (line_reading form (released_words line.1)) (λ read. option_map (λ more. (line.0, read) ∷ more) (numbered_readings form lines))
+abbrev pub numbered_reading : Form → NumberedLine → NumberedRule
+numbered_reading form line = (line.0, line_reading form (released_words line.1))
 
 -- THE RULES OF A FILE by a release, with the numbers of their lines. None where it is refused as a whole
 abbrev pub numbered_rules : Release → Form → List ℕ → Option (List NumberedRule)
-numbered_rules release form bytes = then_some (numbered_lines release bytes) (numbered_readings form)
+numbered_rules release form bytes = option_map (map (numbered_reading form)) (numbered_lines release bytes)
 
 -- AS THE CODE KEEPS THEM
 
@@ -42,9 +40,13 @@ rule_view rule = record {
   body = body_view rule.body;
 }
 
+abbrev pub failing_view : KeptFailing → FailingRule
+failing_view rule = record { service = option_map (λ s. s.items) rule.service; kind = rule.kind; actions = rule.control }
+
 abbrev pub reading_view : KeptReading → Reading
 reading_view (kept.Rule rule) = Reads (rule_view rule)
-reading_view kept.Fails = Fails
+reading_view (kept.Fails rule) = Fails (failing_view rule)
+reading_view (kept.Refuses service) = Refuses (option_map (λ s. s.items) service)
 
 abbrev pub numbered_view : NumberedReading → NumberedRule
 numbered_view rule = (rule.line, reading_view rule.reading)

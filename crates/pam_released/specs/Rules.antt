@@ -9,7 +9,8 @@ use Rattle.pam_conf.specs.Rule.{RuleBody, Include, Module, RuleText, Sub, kind_n
 use Rattle.pam_conf.specs.declared.rule.Form.{Form}
 use Rattle.pam_conf.specs.declared.rule.Form.TheVariants.{Dir, Single}
 use Rattle.pam_conf.specs.declared.rule.Kind.{Kind}
-use Rattle.pam_released.specs.Control.{released_actions, then_some}
+use Rattle.pam_conf.specs.declared.rule.Kind.TheVariants.{Auth}
+use Rattle.pam_released.specs.Control.{all_bad, released_actions}
 use Rattle.pam_released.specs.Findings.{is_no_name, module_name}
 use Rattle.pam_released.specs.Words.{words_152, words_170}
 
@@ -20,36 +21,80 @@ pub record LineRule : Type 0 where
   pub dashed : Bool
   pub body : RuleBody
 
--- what a line is read as: a rule, or where a part of it is missing or wrong, one that always fails
+-- a rule that always fails, whatever its module is; its control counts as ever
+pub record FailingRule : Type 0 where
+  pub service : Option (List ℕ)
+  pub kind : Kind
+  pub actions : List Action
+
+-- what a line is read as: a rule; one that always fails, since a part of the line is missing or wrong; or a refusal of the
+-- configuration, in pam.conf where the service of the line is asked for or is `other`
 pub data Reading : Type 0 where
   Reads : LineRule → Reading
-  Fails : Reading
+  Fails : FailingRule → Reading
+  Refuses : Option (List ℕ) → Reading
 
 abbrev pub reads : Option (List ℕ) → Option Kind → Bool → RuleBody → Reading
 reads service kind dashed body = Reads record { service = service; kind = kind; dashed = dashed; body = body }
 
--- the words after `include`, `substack` or `@include`
-abbrev pub target_reading : (List ℕ → RuleBody) → Option (List ℕ) → Option Kind → Bool → List (List ℕ) → Option Reading
-target_reading body service kind dashed [] = Some Fails
-target_reading body service kind dashed (target ∷ words) = Some (reads service kind dashed (body (without_folder_of target)))
+abbrev pub fails : Option (List ℕ) → Kind → List Action → Reading
+fails service kind actions = Fails record { service = service; kind = kind; actions = actions }
 
--- the words after a control: a module without a name makes the library refuse the file
-abbrev pub module_reading : List Action → Option (List ℕ) → Option Kind → Bool → List (List ℕ) → Option Reading
-module_reading actions service kind dashed [] = Some Fails
-module_reading actions service kind dashed (path ∷ arguments) =
-    if is_no_name (module_name path) then None else Some (reads service kind dashed (Module actions path arguments))
+-- what the words after a kind make: a body; the actions of a rule that fails, since a part is missing; or the refusal of the configuration
+pub data BodyRead : Type 0 where
+  Body : RuleBody → BodyRead
+  Missing : List Action → BodyRead
+  Refused : BodyRead
+
+-- the words after `include`: without a target, the program that asks ends
+abbrev pub include_body : List (List ℕ) → BodyRead
+include_body [] = Refused
+include_body (target ∷ words) = Body (Include (without_folder_of target))
+
+-- the words after `substack`, which is kept as a module is: it needs a name
+abbrev pub substack_body : List (List ℕ) → BodyRead
+substack_body [] = Refused
+substack_body (target ∷ words) = if is_no_name (module_name target) then Refused else Body (Sub (without_folder_of target))
+
+-- the words after a control. A module needs a name
+abbrev pub module_body : List Action → List (List ℕ) → BodyRead
+module_body actions [] = Missing actions
+module_body actions (path ∷ arguments) = if is_no_name (module_name path) then Refused else Body (Module actions path arguments)
 
 -- the actions of a keyword, or of the inside of brackets: brackets around a keyword do not show
 abbrev pub control_actions : List ℕ → List Action
 control_actions text = option_map_or actions_of (keyword_pairs text) (released_actions text)
 
--- the words after the kind
-unfoldable pub control_reading : Option (List ℕ) → Option Kind → Bool → List (List ℕ) → Option Reading
-control_reading service kind dashed [] = Some Fails
-control_reading service kind dashed (control ∷ words) =
-    if same_name (codes "include") control then target_reading Include service kind dashed words
-    else if same_name (codes "substack") control then target_reading Sub service kind dashed words
-    else module_reading (control_actions control) service kind dashed words
+-- the words after the kind; without a control, each code is bad
+unfoldable pub control_body : List (List ℕ) → BodyRead
+control_body [] = Missing all_bad
+control_body (control ∷ words) =
+    if same_name (codes "include") control then include_body words
+    else if same_name (codes "substack") control then substack_body words
+    else module_body (control_actions control) words
+
+-- the line of a kind
+abbrev pub kind_reading : Option (List ℕ) → Kind → Bool → BodyRead → Reading
+kind_reading service kind dashed (Body body) = reads service (Some kind) dashed body
+kind_reading service kind dashed (Missing actions) = fails service kind actions
+kind_reading service kind dashed Refused = Refuses service
+
+-- the actions of the call of a module
+abbrev pub actions_called : BodyRead → Option (List Action)
+actions_called (Body (Module actions path arguments)) = Some actions
+actions_called (Body (Include target)) = None
+actions_called (Body (Sub target)) = None
+actions_called (Missing actions) = None
+actions_called Refused = None
+
+-- the line of a word that is no kind: it counts as `auth`, and a module's rule always fails
+abbrev pub no_kind_reading : Option (List ℕ) → Bool → BodyRead → Reading
+no_kind_reading service dashed read = option_map_or (fails service Auth) (actions_called read) (kind_reading service Auth dashed read)
+
+-- the words after `@include`, which is of no kind: without a target, the program that asks ends
+abbrev pub at_include_reading : Option (List ℕ) → Bool → List (List ℕ) → Reading
+at_include_reading service dashed [] = Refuses service
+at_include_reading service dashed (target ∷ words) = reads service None dashed (Include (without_folder_of target))
 
 -- whether a text begins with `-`, and the text after it
 abbrev pub undashed : List ℕ → Bool × List ℕ
@@ -57,32 +102,29 @@ undashed [] = (false, [])
 undashed (b ∷ bs) = if b == 45 then (true, bs) else (false, b ∷ bs)
 
 -- the words after a kind, without its dash
-unfoldable pub typed_reading : Option (List ℕ) → Bool → List ℕ → List (List ℕ) → Option Reading
+unfoldable pub typed_reading : Option (List ℕ) → Bool → List ℕ → List (List ℕ) → Reading
 typed_reading service dashed kind words =
-    if same_name (codes "@include") kind then target_reading Include service None dashed words
-    else option_map_or (λ k. control_reading service (Some k) dashed words) (kind_named kind) (Some Fails)
+    if same_name (codes "@include") kind then at_include_reading service dashed words
+    else option_map_or (λ k. kind_reading service k dashed (control_body words)) (kind_named kind)
+    (no_kind_reading service dashed (control_body words))
 
--- the words from the kind on
-abbrev pub kind_reading : Option (List ℕ) → List (List ℕ) → Option Reading
-kind_reading service [] = Some Fails
-kind_reading service (kind ∷ words) = typed_reading service (undashed kind).0 (undashed kind).1 words
+-- the words from the kind on: without a kind, too, the line counts as `auth`
+abbrev pub rule_reading : Option (List ℕ) → List (List ℕ) → Reading
+rule_reading service [] = fails service Auth all_bad
+rule_reading service (kind ∷ words) = typed_reading service (undashed kind).0 (undashed kind).1 words
 
--- the words of a line. None where the library refuses the file
-abbrev pub line_reading : Form → List (List ℕ) → Option Reading
-line_reading Dir words = kind_reading None words
-line_reading Single [] = Some Fails
-line_reading Single (service ∷ words) = kind_reading (Some (map to_ascii_lowercase service)) words
-
-unfoldable pub line_readings : Form → List (List (List ℕ)) → Option (List Reading)
-line_readings form [] = Some []
-line_readings form (words ∷ lines) = then_some (line_reading form words) (λ r. option_map (λ rs. r ∷ rs) (line_readings form lines))
+-- THE READING OF A LINE, by its words
+abbrev pub line_reading : Form → List (List ℕ) → Reading
+line_reading Dir words = rule_reading None words
+line_reading Single [] = fails None Auth all_bad
+line_reading Single (service ∷ words) = rule_reading (Some (map to_ascii_lowercase service)) words
 
 -- THE RULES OF A FILE by either release. None where it is refused as a whole
 unfoldable pub rules_152 : Form → List ℕ → Option (List Reading)
-rules_152 form bytes = then_some (words_152 bytes) (line_readings form)
+rules_152 form bytes = option_map (map (line_reading form)) (words_152 bytes)
 
 unfoldable pub rules_170 : Form → List ℕ → Option (List Reading)
-rules_170 form bytes = then_some (words_170 bytes) (line_readings form)
+rules_170 form bytes = option_map (map (line_reading form)) (words_170 bytes)
 
 -- a rule of the manual pages, as such a reading
 abbrev pub reading_of : RuleText → Reading

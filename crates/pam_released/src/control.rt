@@ -7,7 +7,7 @@ ghost use Rattle.std.specs.Option.{option_map};
 ghost use Rattle.pam_codes.specs.Action.{IsAction};
 ghost use Rattle.pam_codes.specs.Code.{all_codes};
 ghost use Rattle.pam_released.specs.Control.{action_at, after_spaces, begins, equals_at, is_space, jump_at, jump_value, name_of};
-ghost use Rattle.pam_released.specs.Control.{released_actions, subject_at};
+ghost use Rattle.pam_released.specs.Control.{all_bad, released_actions, subject_at};
 ghost use Rattle.pam_released.specs.Rules.{control_actions};
 ghost use Rattle.pam_released.specs.inner.Pair.{code_after, pair_at};
 
@@ -182,6 +182,13 @@ fn pair_at(text: &[u8]) -> Option<(Subject, Action, &[u8])>
     Some((subject, action, rest))
 }
 
+/// The control that makes each answer a failure.
+pub(crate) fn all_bad() -> Control
+    ensures { result ≡ all_bad }
+{
+    Control::of([None; CODES], Action::Bad)
+}
+
 /// The control with the inside of brackets: all actions are bad where it has a fault.
 fn bracket_control(inside: &[u8]) -> Control
     ensures { result ≡ released_actions inside.now }
@@ -191,7 +198,7 @@ fn bracket_control(inside: &[u8]) -> Control
     let mut rest = after_spaces(inside);
     while !rest.is_empty() {
         let Some((subject, action, after)) = pair_at(rest) else {
-            return Control::of([None; CODES], Action::Bad);
+            return all_bad();
         };
         rest = after_spaces(after);
         match subject {

@@ -14,11 +14,12 @@ mod release;
 pub mod rows;
 mod rules;
 mod survey;
+pub mod tables;
 mod texts;
 
 pub use difference::Difference;
 pub use finding::Finding;
 pub use reader::Reader;
-pub use reading::{LineRule, NumberedReading, Reading, released_rules};
+pub use reading::{FailingRule, LineRule, NumberedReading, Reading, released_rules};
 pub use release::Release;
 pub use survey::findings;

@@ -1,16 +1,7 @@
 //! The name of a module.
 
 ghost use Rattle.std.specs.Prelude.{◌≡◌};
-ghost use Rattle.pam_released.specs.Findings.{after_last_slash, before_last_dot, is_no_name, module_name, names_target};
-
-use pam_codes::is_name;
-
-/// Whether a control names a target in place of a module.
-pub(crate) fn names_target(control: &[u8]) -> bool
-    ensures { result ≡ names_target control.now }
-{
-    is_name(b"include", control) || is_name(b"substack", control)
-}
+ghost use Rattle.pam_released.specs.Findings.{after_last_slash, before_last_dot, is_no_name, module_name};
 
 /// The name of the module with this path: of its file, without the extension.
 pub(crate) fn module_name(path: &[u8]) -> &[u8]

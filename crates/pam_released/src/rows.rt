@@ -14,8 +14,9 @@ use crate::lines::{
     are_blank_lines, before_hash, ends_in_backslash, ends_in_blank, goes_on, has_hash,
     is_blank_line, part_begins_in_blank, split_line,
 };
-use crate::names::{is_no_name, module_name, names_target};
+use crate::names::{is_no_name, module_name};
 use crate::reader::Reader;
+use pam_codes::is_name;
 use pam_conf::{Words, text_of};
 use std::alloc::AllocError;
 
@@ -89,7 +90,7 @@ pub fn is_cut(used: usize, line: &[u8]) -> bool
     used < ROOM && line.len() >= ROOM - 1 - used
 }
 
-/// L8: whether `words`, from a control on, call a module without a name. Replaces the contents of `inside`.
+/// L8: whether `words`, from a control on, call a module without a name, or a substack. Replaces the contents of `inside`.
 pub fn has_empty_name(words: Words<'_>, inside: &mut Vec<u8>) -> Result<bool, AllocError>
     ensures { IfOk result (λ is. is ≡ has_empty_name (words_to_come words.entry)) }
 {
@@ -99,7 +100,7 @@ pub fn has_empty_name(words: Words<'_>, inside: &mut Vec<u8>) -> Result<bool, Al
     let Some((path, _)) = after.split_first() else {
         return Ok(false);
     };
-    if names_target(control) {
+    if is_name(b"include", control) {
         return Ok(false);
     }
     Ok(is_no_name(module_name(text_of(path, inside)?)))

@@ -1,7 +1,7 @@
 -- The answer of `check`.
 use Rattle.std.proofs.Common.{◌≡◌, List, ℕ, Ok, Result, subst, sym}
-use Rattle.pam_accept.specs.Lines.{Accepted, accepted_lines}
-use Rattle.pam_accept.specs.declared.error.AcceptError.{AcceptError}
+use Rattle.pam_findings.specs.accepted.Lines.{Accepted, accepted_lines}
+use Rattle.pam_findings.specs.declared.accepted.error.AcceptError.{AcceptError}
 use Rattle.pam_conf.specs.Files.{Folder}
 use Rattle.pam_facts.specs.Reading.{known_rows}
 use Rattle.pam_facts.specs.Rows.{Row}

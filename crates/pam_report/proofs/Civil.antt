@@ -2,9 +2,9 @@
 use Rattle.std.proofs.Common.{◌≡◌, ◌↔◌, false, true, List, ℕ, Result, Ok, Err, subst}
 use Rattle.std.specs.Prelude.{IsOk, IfOk, IfErr}
 use Rattle.jiff.specs.Types.{DateTime}
-use Rattle.pam_times.specs.Moments.{Exist, HasParts, parts_of}
-use Rattle.pam_times.specs.declared.moments.MomentError.{MomentError}
-use Rattle.pam_times.specs.declared.moments.MomentError.TheVariants as moments
+use Rattle.pam_tables.specs.times.Moments.{Exist, HasParts, parts_of}
+use Rattle.pam_tables.specs.declared.times.moments.MomentError.{MomentError}
+use Rattle.pam_tables.specs.declared.times.moments.MomentError.TheVariants as moments
 use Rattle.pam_report.specs.Moments.{IsWritten}
 
 -- no test has both results

@@ -2,8 +2,8 @@
 use Rattle.std.proofs.Common.{◌≡◌, ℕ, Bool, true, false, if◌then◌else◌, List, Ok, Err, ap, sym}
 use Rattle.pam_conf.specs.Stack.{Items, module_count}
 use Rattle.pam_graph.specs.Walks.{GraphValue}
-use Rattle.pam_known.proofs.Listings.{same_listing}
-use Rattle.pam_known.specs.Knowledge.{Agree}
+use Rattle.pam_facts.proofs.KnownProofs.Listings.{same_listing}
+use Rattle.pam_facts.specs.known.Knowledge.{Agree}
 use Rattle.pam_paths.specs.Known.{may_answer}
 use Rattle.pam_paths.specs.Listing.{Allowance}
 use Rattle.pam_paths.specs.Paths.{path_through}

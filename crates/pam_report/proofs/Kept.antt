@@ -3,7 +3,7 @@ use Rattle.std.proofs.Common.{◌≡◌, ◌∙◌, ℕ, ◌+◌, ◌<◌, Bool,
 use Rattle.std.proofs.lemmas.List.{map-append, take_more}
 use Rattle.std.proofs.lemmas.List.Elements.{filter-append, filter_more}
 use Rattle.std.specs.Prelude.{filter, not}
-use Rattle.pam_accept.specs.Lines.{Accepted}
+use Rattle.pam_findings.specs.accepted.Lines.{Accepted}
 use Rattle.pam_report.specs.Accepting.{accepts}
 
 module _ {A : Type 0} (p : A → Bool) (xs : List A) (i : ℕ) (d : A) (kept : List A) where

@@ -7,21 +7,21 @@ use Rattle.pam_conf.specs.declared.conf_error.ConfError.{ConfError}
 use Rattle.pam_conf.specs.declared.error.FaultKind.{FaultKind}
 use Rattle.pam_conf.specs.declared.error.FaultKind.TheVariants as conf
 use Rattle.pam_conf.specs.declared.rule.Kind.{Kind}
-use Rattle.pam_known.specs.Answers.{IsFault, IsTableFault as IsFaultOfTable, IsTimeFault as IsFaultOfTime}
-use Rattle.pam_known.specs.Knowledge.{Agree, Knows, allows_codes}
-use Rattle.pam_known.specs.Reads.{tables_read}
-use Rattle.pam_known.specs.Tables.{TablesText, TimedText}
-use Rattle.pam_known.specs.declared.error.KnownError.{KnownError}
-use Rattle.pam_known.specs.declared.error.KnownError.TheVariants as known
+use Rattle.pam_facts.specs.known.Answers.{IsFault, IsTableFault as IsFaultOfTable, IsTimeFault as IsFaultOfTime}
+use Rattle.pam_facts.specs.known.Knowledge.{Agree, Knows, allows_codes}
+use Rattle.pam_facts.specs.known.Reads.{tables_read}
+use Rattle.pam_facts.specs.known.Tables.{TablesText, TimedText}
+use Rattle.pam_facts.specs.declared.known.error.KnownError.{KnownError}
+use Rattle.pam_facts.specs.declared.known.error.KnownError.TheVariants as known
 use Rattle.pam_paths.specs.Known.{may_answer}
 use Rattle.pam_paths.specs.Listing.{Allowance}
 use Rattle.pam_paths.specs.declared.knowledge.Known.{Known}
 use Rattle.pam_tables.specs.declared.error.TableError.{TableError}
 use Rattle.pam_tables.specs.declared.error.TableFault.{TableFault}
 use Rattle.pam_tables.specs.declared.error.TableFault.TheVariants as tables
-use Rattle.pam_times.specs.declared.error.TimeError.{TimeError}
-use Rattle.pam_times.specs.declared.error.TimeFault.{TimeFault}
-use Rattle.pam_times.specs.declared.error.TimeFault.TheVariants as times
+use Rattle.pam_tables.specs.declared.times.error.TimeError.{TimeError}
+use Rattle.pam_tables.specs.declared.times.error.TimeFault.{TimeFault}
+use Rattle.pam_tables.specs.declared.times.error.TimeFault.TheVariants as times
 use Rattle.pam_report.specs.Fault.{known_fault}
 use Rattle.pam_report.proofs.Wanting.{wanted-given}
 use Rattle.pam_report.specs.Inputs.{tables_given}
@@ -124,6 +124,8 @@ module _ (IsAnswerOf : Items → Allowance → Answer → Type 0) (told : Result
   fault-found (faults.Facts e) h = from-err (faults.Facts e) h
   fault-found (faults.Accept e) h = from-err (faults.Accept e) h
   fault-found faults.NoSuchNumber h = from-err faults.NoSuchNumber h
+  fault-found faults.NoSuchService h = from-err faults.NoSuchService h
+  fault-found faults.UnusedCandidate h = from-err faults.UnusedCandidate h
   fault-found (faults.Moment e) h = from-err (faults.Moment e) h
   fault-found (faults.Cursor e) h = absurd h
   fault-found (faults.Table e) h = from-table e e.fault h

@@ -1,3 +1,4 @@
+pub mod CandidateSteps
 pub mod CheckAnswers
 pub mod Civil
 pub mod ComparedSteps
@@ -8,6 +9,7 @@ pub mod KnownStacks
 pub mod OutcomeLists
 pub mod PageParts
 pub mod ReleasedRules
+pub mod ServiceSteps
 pub mod SettingSteps
 pub mod SilentChecks
 pub mod TraceSteps

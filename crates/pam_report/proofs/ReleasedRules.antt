@@ -1,11 +1,16 @@
 -- The rules that a release reads: the file in which they stand, and those that are kept.
-use Rattle.std.proofs.Common.{◌≡◌, ℕ, ◌+◌, ◌<◌, ◌≤◌, Bool, true, false, not, List, [], ◌∷◌, ap, cond, filter, length, map, refl, suc, sym, zero, ◌∙◌}
+use Rattle.std.proofs.Common.{◌≡◌, ℕ, ◌+◌, ◌<◌, ◌≤◌, ◌||◌, Bool, true, false, not, List, [], ◌∷◌, ap, cond, filter, length, map, refl, suc, sym, zero, ◌∙◌}
 use Rattle.std.proofs.Common.{Option, Some, None, arith, slice_get, subst}
 use Rattle.std.proofs.lemmas.Bool.{le-ltb, lt-ltb}
-use Rattle.std.specs.List.{position_or_len}
+use Rattle.std.specs.Char.{to_ascii_lowercase}
+use Rattle.std.specs.List.{list_any, position_or_len}
 use Rattle.std.specs.Option.{option_map}
 use Rattle.std.specs.Str.{bytes_eq}
 use Rattle.pam_conf.specs.Files.{Named, position_of}
+use Rattle.pam_conf.specs.declared.rule.Kind.{Kind}
+use Rattle.pam_released.specs.Readings.{NumberedRule, numbered_view, reading_view}
+use Rattle.pam_released.specs.declared.reading.NumberedReading.{NumberedReading}
+use Rattle.pam_report.specs.Released.{chosen, concerns, refuses}
 
 -- ---- the position of a file
 
@@ -74,3 +79,34 @@ filter-viewed view test (x ∷ xs) =
       | true ↦ ap (λ ys. view x ∷ ys) rest
       | false ↦ rest
     ]
+
+-- the same where one is sought
+any-viewed : {A B : Type 0} (view : A → B) (test : B → Bool) (xs : List A) → list_any (λ x. test (view x)) xs ≡ list_any test (map view xs)
+any-viewed view test [] = refl
+any-viewed view test (x ∷ xs) = ap (λ (b : Bool). test (view x) || b) (any-viewed view test xs)
+
+-- the rules, by whether one of them is refused
+abbrev unless : Bool → List NumberedRule → Option (List NumberedRule)
+unless refused kept = cond refused None (Some kept)
+
+some-refuses : (service : List ℕ) (rules : List NumberedReading) →
+    list_any (λ rule. refuses service (reading_view rule.reading)) rules ≡ list_any (λ rule. refuses service rule.1) (map numbered_view rules)
+some-refuses service rules = any-viewed numbered_view (λ rule. refuses service rule.1) rules
+
+pub none_chosen : (service lower : List ℕ) (kind : Kind) (rules : List NumberedReading) → lower ≡ map to_ascii_lowercase service →
+    list_any (λ rule. refuses lower (reading_view rule.reading)) rules ≡ true → None ≡ chosen service kind (map numbered_view rules)
+none_chosen service lower kind rules is refused =
+    let found = sym (some-refuses lower rules) ∙ refused in
+    ap (λ (b : Bool). unless b (filter (λ rule. concerns lower kind rule.1) (map numbered_view rules))) (sym found)
+    ∙ ap (λ (l : List ℕ). unless (list_any (λ rule. refuses l rule.1) (map numbered_view rules))
+    (filter (λ rule. concerns l kind rule.1) (map numbered_view rules))) is
+
+pub those_chosen : (service lower : List ℕ) (kind : Kind) (rules : List NumberedReading) (kept : List NumberedRule) →
+    lower ≡ map to_ascii_lowercase service → list_any (λ rule. refuses lower (reading_view rule.reading)) rules ≡ false →
+    kept ≡ filter (λ rule. concerns lower kind rule.1) (map numbered_view rules) → Some kept ≡ chosen service kind (map numbered_view rules)
+those_chosen service lower kind rules kept is none those =
+    let found = sym (some-refuses lower rules) ∙ none in
+    ap (λ (r : List NumberedRule). Some r) those
+    ∙ ap (λ (b : Bool). unless b (filter (λ rule. concerns lower kind rule.1) (map numbered_view rules))) (sym found)
+    ∙ ap (λ (l : List ℕ). unless (list_any (λ rule. refuses l rule.1) (map numbered_view rules))
+    (filter (λ rule. concerns l kind rule.1) (map numbered_view rules))) is

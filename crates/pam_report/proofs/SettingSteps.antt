@@ -12,7 +12,7 @@ use Rattle.pam_report.specs.KnownStack.{KnownItems}
 use Rattle.pam_report.specs.Settings.{names_one, set_at, with_settings}
 use Rattle.pam_report.specs.declared.fault.Fault.{Fault}
 use Rattle.pam_report.specs.declared.fault.Fault.TheVariants as faults
-use Rattle.pam_settings.specs.Settings.{SettingText}
+use Rattle.pam_facts.specs.settings.Settings.{SettingText}
 
 module _ (files : Folder) (there : Option (List (List ℕ))) (settings : List SettingText) (items : Items) (known : Known) (told : Result KnownItems Fault)
     (found : AreCodesOf items known told) where

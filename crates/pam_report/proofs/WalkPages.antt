@@ -38,6 +38,8 @@ module _ (paging : Paging) (graph : GraphValue) (goal : Goal) where
   part-listed (Err faults.NoSuchModule) part listed to h are = absurd are
   part-listed (Err faults.NoSuchKey) part listed to h are = absurd are
   part-listed (Err faults.NoSuchNumber) part listed to h are = absurd are
+  part-listed (Err faults.NoSuchService) part listed to h are = absurd are
+  part-listed (Err faults.UnusedCandidate) part listed to h are = absurd are
   part-listed (Err (faults.Facts e)) part listed to h are = absurd are
   part-listed (Err (faults.Accept e)) part listed to h are = absurd are
   part-listed (Err (faults.Conf e)) part listed to h are = absurd are
@@ -108,6 +110,8 @@ module _ (paging : Paging) (graph : GraphValue) (goal : Goal) where
   refused-listed K part one faults.NoSuchModule same h = absurd h
   refused-listed K part one faults.NoSuchKey same h = absurd h
   refused-listed K part one faults.NoSuchNumber same h = absurd h
+  refused-listed K part one faults.NoSuchService same h = absurd h
+  refused-listed K part one faults.UnusedCandidate same h = absurd h
   refused-listed K part one (faults.Facts e) same h = absurd h
   refused-listed K part one (faults.Accept e) same h = absurd h
   refused-listed K part one (faults.Conf e) same h = absurd h

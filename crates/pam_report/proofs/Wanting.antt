@@ -4,11 +4,11 @@ use Rattle.std.specs.Prelude.{Option, Some, None, is_some, option_map}
 use Rattle.jiff.specs.Types.{DateTime}
 use Rattle.pam_conf.specs.Stack.{Items}
 use Rattle.pam_conf.specs.declared.rule.Kind.{Kind}
-use Rattle.pam_known.proofs.ReadTables.{read_is_given}
-use Rattle.pam_known.specs.Reads.{IsOfRead, TablesRead, is_read, tables_read}
-use Rattle.pam_known.specs.inner.Sets.{all_given}
-use Rattle.pam_known.specs.declared.error.KnownError.{KnownError}
-use Rattle.pam_known.specs.declared.error.KnownError.TheVariants as known
+use Rattle.pam_facts.proofs.KnownProofs.ReadTables.{read_is_given}
+use Rattle.pam_facts.specs.known.Reads.{IsOfRead, TablesRead, is_read, tables_read}
+use Rattle.pam_facts.specs.known.inner.Sets.{all_given}
+use Rattle.pam_facts.specs.declared.known.error.KnownError.{KnownError}
+use Rattle.pam_facts.specs.declared.known.error.KnownError.TheVariants as known
 use Rattle.pam_tables.specs.declared.error.Table.{Table}
 use Rattle.pam_tables.specs.declared.error.Table.TheVariants.{Access, Group, Returns}
 use Rattle.pam_report.specs.Fault.{known_fault}

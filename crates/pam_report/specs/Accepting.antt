@@ -5,14 +5,14 @@ use Rattle.std.specs.BTreeMap.{BTreeMap}
 use Rattle.std.specs.List.{list_any}
 use Rattle.std.specs.Option.{option_map_or}
 use Rattle.std.specs.Str.{bytes_eq}
-use Rattle.pam_accept.specs.Lines.{Accepted}
+use Rattle.pam_findings.specs.accepted.Lines.{Accepted}
 use Rattle.pam_conf.specs.Files.{Folder}
 use Rattle.pam_conf.specs.declared.rule.Kind.{Kind}
-use Rattle.pam_host.specs.declared.problem.Place.{Place}
-use Rattle.pam_host.specs.declared.report.Finding.{Finding}
-use Rattle.pam_known.specs.Answers.{name_of_path}
-use Rattle.pam_table_check.specs.declared.problem.TableFinding.{TableFinding}
-use Rattle.pam_table_check.specs.declared.problem.TablePlace.{TablePlace}
+use Rattle.pam_findings.specs.declared.host.problem.Place.{Place}
+use Rattle.pam_findings.specs.declared.host.report.Finding.{Finding}
+use Rattle.pam_facts.specs.known.Answers.{name_of_path}
+use Rattle.pam_findings.specs.declared.tables.problem.TableFinding.{TableFinding}
+use Rattle.pam_findings.specs.declared.tables.problem.TablePlace.{TablePlace}
 use Rattle.pam_text.specs.Cut.{cut_at, is_among}
 use Rattle.pam_report.specs.Fault.{file_at}
 use Rattle.pam_report.specs.Names.{kind_name, problem_name, stack_of}

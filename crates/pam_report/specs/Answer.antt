@@ -20,15 +20,16 @@ use Rattle.pam_tables.specs.Options.{Options, options_of}
 use Rattle.pam_tables.specs.declared.error.Table.{Table}
 use Rattle.pam_tables.specs.declared.error.Table.TheVariants as tables
 use Rattle.pam_tables.specs.declared.error.TableFault.{TableFault}
-use Rattle.pam_times.specs.Reading.{rules_of}
-use Rattle.pam_times.specs.Times.{Rule, answer_of as time_answer_of}
-use Rattle.pam_times.specs.declared.error.TimeError.{TimeError}
-use Rattle.pam_times.specs.declared.moments.MomentError.{MomentError}
-use Rattle.pam_settings.specs.Settings.{SettingText, setting_view}
+use Rattle.pam_tables.specs.times.Reading.{rules_of}
+use Rattle.pam_tables.specs.times.Times.{Rule, answer_of as time_answer_of}
+use Rattle.pam_tables.specs.declared.times.error.TimeError.{TimeError}
+use Rattle.pam_tables.specs.declared.times.moments.MomentError.{MomentError}
+use Rattle.pam_facts.specs.settings.Settings.{SettingText, setting_view}
 use Rattle.pam_words.specs.declared.wanted.Login.{Login}
 use Rattle.pam_words.specs.declared.wanted.ReleaseName.{ReleaseName}
 use Rattle.pam_words.specs.declared.wanted.Task.{Task}
 use Rattle.pam_words.specs.declared.wanted.Task.TheVariants.{Show, Decide, Access, Time, Paths, Outcomes, Graph, Check, Compare, Explain, Facts, Version}
+use Rattle.pam_report.specs.Candidates.{CandidateText, IfUsed, first_unused}
 use Rattle.pam_report.specs.Check.{IsCheck}
 use Rattle.pam_report.specs.Compare.{IsCompare}
 use Rattle.pam_report.specs.Decide.{asked_modules}
@@ -44,6 +45,7 @@ use Rattle.pam_report.specs.Released.{ReleasedValue, released}
 use Rattle.pam_report.specs.Reply.{Answer, RunValue, Released, Run, Stack}
 use Rattle.pam_report.specs.Reply.{Explained, Explanations}
 use Rattle.pam_report.specs.Reply.{Access as AccessReply, Facts as FactsReply, Time as TimeReply, Version as VersionReply}
+use Rattle.pam_report.specs.Services.{IfServices, has_service, has_services, sides_have}
 use Rattle.pam_report.specs.Settings.{with_settings}
 use Rattle.pam_report.specs.declared.inputs.Inputs.{Inputs}
 use Rattle.pam_report.specs.declared.fault.Fault.{Fault}
@@ -138,38 +140,43 @@ abbrev pub stack_at : List ℕ → Kind → Login → List SettingText → Input
 stack_at service kind login settings inputs moment files =
     with_settings files (there_given inputs) settings (known_stack kind (login_at service login) inputs moment (resolved files service kind))
 
--- what a call gives that answers a task for a service, from these files and the tables of these inputs, if this is what it
+-- what a call gives that answers a task for a service with these candidates, from these files and the tables of these inputs, if this is what it
 -- gives for an answer that satisfies a relation
 module _ (Gives : (Answer → Type 0) → Type 0) where
-  unfoldable pub AnswersBy : List ℕ → Task → Folder → Inputs → Type 0
-  AnswersBy service (Show source kind release) files inputs = Gives (λ answer. shown_by release service kind files ≡ answer)
-  AnswersBy service (Decide source kind answered) files inputs =
+  unfoldable pub AnswersBy : List ℕ → List CandidateText → Task → Folder → Inputs → Type 0
+  AnswersBy service candidates (Show source kind release) files inputs = Gives (λ answer. shown_by release service kind files ≡ answer)
+  AnswersBy service candidates (Decide source kind answered) files inputs =
       Gives (λ answer. with_stack (resolved files service kind) (decided_by service kind answered.items) ≡ answer)
-  AnswersBy service (Access table groups login arguments) files inputs =
+  AnswersBy service candidates (Access table groups login arguments) files inputs =
       Gives (λ answer. looked_up (login_at service login) arguments inputs ≡ answer)
-  AnswersBy service (Time table login moment) files inputs =
+  AnswersBy service candidates (Time table login moment) files inputs =
       (at : Result DateTime MomentError) × IsMoment moment at
       × Gives (λ answer. timed (login_at service login) (time_given inputs) at ≡ answer)
-  AnswersBy service (Paths source kind limit part filter knowledge) files inputs =
+  AnswersBy service candidates (Paths source kind limit part filter knowledge) files inputs =
       (at : Option (Result DateTime MomentError)) × IsGivenMoment knowledge.moment at
       × Gives
       (IsPage (record { service = service; kind = kind; limit = limit; part = part; filter = filter })
       (stack_at service kind knowledge.login (map setting_view knowledge.settings.items) inputs at files))
-  AnswersBy service (Outcomes source kind knowledge) files inputs =
+  AnswersBy service candidates (Outcomes source kind knowledge) files inputs =
       (at : Option (Result DateTime MomentError)) × IsGivenMoment knowledge.moment at
-      × Gives (IsOutcomes service kind (stack_at service kind knowledge.login (map setting_view knowledge.settings.items) inputs at files))
-  AnswersBy service (Check source services fail_on named) files inputs = Gives (IsCheck services fail_on named files inputs)
-  AnswersBy service (Compare old new named kind given) files inputs =
-      Gives (IsCompare (option_copied named) kind (map setting_view given.settings.items) inputs)
-  AnswersBy service (Explain number) files inputs = Gives (λ answer. explained (option_copied number) ≡ answer)
-  AnswersBy service Facts files inputs = Gives (λ answer. Ok FactsReply ≡ answer)
-  AnswersBy service Version files inputs = Gives (λ answer. Ok VersionReply ≡ answer)
-  AnswersBy service (Graph source kind format knowledge) files inputs =
+      × Gives (IfServices (has_service files service)
+      (IsOutcomes service kind (stack_at service kind knowledge.login (map setting_view knowledge.settings.items) inputs at files)))
+  AnswersBy service candidates (Check source services fail_on named) files inputs =
+      Gives (IfServices (has_services files services)
+      (IfUsed (first_unused files services candidates) (IsCheck services fail_on named files inputs)))
+  AnswersBy service candidates (Compare old new named kind given) files inputs =
+      Gives (IfServices (sides_have inputs (option_copied named))
+      (IsCompare (option_copied named) kind (map setting_view given.settings.items) inputs))
+  AnswersBy service candidates (Explain number) files inputs = Gives (λ answer. explained (option_copied number) ≡ answer)
+  AnswersBy service candidates Facts files inputs = Gives (λ answer. Ok FactsReply ≡ answer)
+  AnswersBy service candidates Version files inputs = Gives (λ answer. Ok VersionReply ≡ answer)
+  AnswersBy service candidates (Graph source kind format knowledge) files inputs =
       (at : Option (Result DateTime MomentError)) × IsGivenMoment knowledge.moment at
-      × Gives (IsGraphReply format service kind (stack_at service kind knowledge.login (map setting_view knowledge.settings.items) inputs at files))
+      × Gives (IfServices (has_service files service)
+      (IsGraphReply format service kind (stack_at service kind knowledge.login (map setting_view knowledge.settings.items) inputs at files)))
 
--- THE REPLY to a task for a service, from these inputs
-abbrev pub Replies : Result Reply Fault → List ℕ → Task → Inputs → Type 0
-Replies result service task inputs =
-    AnswersBy (Finds result) service task (unwrap_or (files_given inputs) no_files) inputs
+-- THE REPLY to a task for a service with these candidates, from these inputs
+abbrev pub Replies : Result Reply Fault → List ℕ → List CandidateText → Task → Inputs → Type 0
+Replies result service candidates task inputs =
+    AnswersBy (Finds result) service candidates task (unwrap_or (files_given inputs) no_files) inputs
     × WantsOnly (wants task inputs) result

@@ -2,29 +2,29 @@
 use Rattle.std.specs.Prelude.{◌≡◌, ◌<◌, ℕ, All, List, [], length, map, Result, Ok, Err, unwrap_or}
 use Rattle.std.specs.BTreeMap.{BTreeMap}
 use Rattle.std.specs.Option.{option_copied}
-use Rattle.pam_accept.specs.Lines.{Accepted, accepted_lines}
-use Rattle.pam_accept.specs.declared.error.AcceptError.{AcceptError}
+use Rattle.pam_findings.specs.accepted.Lines.{Accepted, accepted_lines}
+use Rattle.pam_findings.specs.declared.accepted.error.AcceptError.{AcceptError}
 use Rattle.pam_conf.specs.Files.{Folder}
 use Rattle.pam_conf.specs.declared.rule.Kind.{Kind}
 use Rattle.pam_facts.specs.Reading.{known_rows}
 use Rattle.pam_facts.specs.Rows.{Row}
 use Rattle.pam_facts.specs.declared.error.FactsError.{FactsError}
-use Rattle.pam_host.specs.Laws.{IsSoundStack}
-use Rattle.pam_host.specs.Levels.{level_of}
-use Rattle.pam_host.specs.Report.{IsReport, host_of}
-use Rattle.pam_host.specs.Services.{checked_services}
-use Rattle.pam_host.specs.declared.level.Level.TheVariants.{Note}
-use Rattle.pam_host.specs.declared.problem.Place.{Place}
-use Rattle.pam_host.specs.declared.report.Finding.{Finding}
-use Rattle.pam_misspelled.specs.Findings.{misspelled_at}
-use Rattle.pam_table_check.specs.Report.{IsTableReport}
-use Rattle.pam_table_check.specs.declared.problem.TableFinding.{TableFinding}
-use Rattle.pam_table_check.specs.declared.problem.TablePlace.{TablePlace}
+use Rattle.pam_findings.specs.host.Laws.{IsSoundStack}
+use Rattle.pam_findings.specs.host.Levels.{level_of}
+use Rattle.pam_findings.specs.host.Report.{IsReport, host_of}
+use Rattle.pam_conf.specs.Services.{checked_services}
+use Rattle.pam_findings.specs.declared.host.level.Level.TheVariants.{Note}
+use Rattle.pam_findings.specs.declared.host.problem.Place.{Place}
+use Rattle.pam_findings.specs.declared.host.report.Finding.{Finding}
+use Rattle.pam_findings.specs.misspelled.Findings.{misspelled_at}
+use Rattle.pam_findings.specs.tables.Report.{IsTableReport}
+use Rattle.pam_findings.specs.declared.tables.problem.TableFinding.{TableFinding}
+use Rattle.pam_findings.specs.declared.tables.problem.TablePlace.{TablePlace}
 use Rattle.pam_words.specs.declared.wanted.CheckFiles.{CheckFiles}
 use Rattle.pam_words.specs.declared.wanted.LevelName.{LevelName}
 use Rattle.pam_report.specs.Accepting.{all_keys, lines_without, not_accepted, table_findings, tables_not_accepted}
 use Rattle.pam_report.specs.Fault.{accept_fault, facts_fault}
-use Rattle.pam_report.specs.Inputs.{accept_given, facts_given, host_tables_given, paths_given, table_paths_given, there_given}
+use Rattle.pam_report.specs.Inputs.{accept_given, facts_given, host_tables_given, paths_given, table_paths_given, there_given, vendor_start_given}
 use Rattle.pam_report.specs.Reply.{Answer, Check, CheckValue}
 use Rattle.pam_report.specs.declared.inputs.Inputs.{Inputs}
 
@@ -38,7 +38,7 @@ module _ (services : List (List ℕ)) (fail_on : LevelName) (named : CheckFiles)
     pub same_level : value.fail_on ≡ fail_on
     pub same_accept : value.accept ≡ unwrap_or (option_copied named.accept) []
     pub all : BTreeMap Place Finding
-    pub report : IsReport files services facts (there_given inputs) all value.ways_in
+    pub report : IsReport files (vendor_start_given inputs) services facts (there_given inputs) all value.ways_in
     pub same_table_paths : value.table_paths ≡ table_paths_given inputs
     pub all_tables : BTreeMap TablePlace TableFinding
     pub table_report : IsTableReport files value.services (host_tables_given inputs) all_tables
@@ -48,7 +48,8 @@ module _ (services : List (List ℕ)) (fail_on : LevelName) (named : CheckFiles)
     pub unused : value.unused ≡ lines_without (all_keys files value.services all.entries value.table_paths (table_findings all_tables)) lines
     -- where no line accepts a finding, and all that are listed are notes, each stack that is checked is sound
     pub silence : value.found ≡ all.entries → All (λ entry. level_of entry.1.problem ≡ Note) value.found →
-        (service : ℕ) (kind : Kind) → service < length value.services → IsSoundStack (host_of files services facts (there_given inputs)) service kind
+        (service : ℕ) (kind : Kind) → service < length value.services →
+        IsSoundStack (host_of files (vendor_start_given inputs) services facts (there_given inputs)) service kind
 
   -- a fault of the facts file comes before one of the accept file
   abbrev pub IsChecked : Result (List Row) FactsError → Result (List Accepted) AcceptError → Answer → Type 0

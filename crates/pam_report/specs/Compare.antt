@@ -7,7 +7,7 @@ use Rattle.pam_conf.specs.declared.rule.Kind.{Kind}
 use Rattle.pam_facts.specs.Reading.{known_rows}
 use Rattle.pam_facts.specs.Rows.{Row}
 use Rattle.pam_facts.specs.declared.error.FactsError.{FactsError}
-use Rattle.pam_settings.specs.Settings.{SettingText}
+use Rattle.pam_facts.specs.settings.Settings.{SettingText}
 use Rattle.pam_tables.specs.Returns.{ReturnLine, returns_of}
 use Rattle.pam_tables.specs.declared.error.Table.TheVariants as tables
 use Rattle.pam_tables.specs.declared.error.TableFault.{TableFault}

@@ -5,8 +5,8 @@ use Rattle.std.specs.Str.{bytes_eq}
 use Rattle.pam_conf.specs.FileRules.{good_rules}
 use Rattle.pam_conf.specs.Files.{Folder}
 use Rattle.pam_conf.specs.Rule.{RuleText, RuleBody, Module, Include, Sub}
-use Rattle.pam_known.specs.Answers.{name_of_path}
-use Rattle.pam_settings.specs.Settings.{SettingText}
+use Rattle.pam_facts.specs.known.Answers.{name_of_path}
+use Rattle.pam_facts.specs.settings.Settings.{SettingText}
 
 abbrev pub body_calls : List ℕ → RuleBody → Bool
 body_calls name (Module control path arguments) = bytes_eq (name_of_path path) name

@@ -5,18 +5,18 @@ use Rattle.std.specs.Option.{option_map}
 use Rattle.pam_conf.specs.Files.{Folder}
 use Rattle.pam_conf.specs.declared.error.FaultKind.{FaultKind}
 use Rattle.pam_conf.specs.declared.error.FaultKind.TheVariants as conf
-use Rattle.pam_accept.specs.Error.{line_of as accept_line}
-use Rattle.pam_accept.specs.declared.error.AcceptError.{AcceptError}
-use Rattle.pam_accept.specs.declared.error.AcceptError.TheVariants as accept
+use Rattle.pam_findings.specs.accepted.Error.{line_of as accept_line}
+use Rattle.pam_findings.specs.declared.accepted.error.AcceptError.{AcceptError}
+use Rattle.pam_findings.specs.declared.accepted.error.AcceptError.TheVariants as accept
 use Rattle.pam_facts.specs.declared.error.FactsError.{FactsError}
 use Rattle.pam_facts.specs.declared.error.FactsFault.{FactsFault}
 use Rattle.pam_facts.specs.declared.error.FactsFault.TheVariants as facts
-use Rattle.pam_known.specs.declared.error.KnownError.{KnownError}
-use Rattle.pam_known.specs.declared.error.KnownError.TheVariants as known
+use Rattle.pam_facts.specs.declared.known.error.KnownError.{KnownError}
+use Rattle.pam_facts.specs.declared.known.error.KnownError.TheVariants as known
 use Rattle.pam_paths.specs.declared.cursor.CursorError.{CursorError}
 use Rattle.pam_paths.specs.declared.cursor.CursorError.TheVariants as cursor
-use Rattle.pam_report.specs.FaultTable.{Row, accept_row, conf_row, count_row, cursor_row, facts_row, graph_row, input_row, key_row, memory_row, module_row}
-use Rattle.pam_report.specs.FaultTable.{moment_row, number_row, table_name, table_row, time_row, usage_row, write_row}
+use Rattle.pam_report.specs.FaultTable.{Row, accept_row, candidate_row, conf_row, count_row, cursor_row, facts_row, graph_row, input_row, key_row, memory_row}
+use Rattle.pam_report.specs.FaultTable.{module_row, moment_row, number_row, service_row, table_name, table_row, time_row, usage_row, write_row}
 use Rattle.pam_report.specs.declared.fault.Fault.{Fault}
 use Rattle.pam_report.specs.declared.fault.Fault.TheVariants as faults
 use Rattle.pam_report.specs.declared.inputs.InputError.{InputError}
@@ -24,8 +24,8 @@ use Rattle.pam_report.specs.declared.inputs.InputError.TheVariants as inputs
 use Rattle.pam_tables.specs.declared.error.Table.{Table}
 use Rattle.pam_tables.specs.declared.error.TableFault.{TableFault}
 use Rattle.pam_tables.specs.declared.error.TableFault.TheVariants as table
-use Rattle.pam_times.specs.declared.error.TimeFault.{TimeFault}
-use Rattle.pam_times.specs.declared.error.TimeFault.TheVariants as time
+use Rattle.pam_tables.specs.declared.times.error.TimeFault.{TimeFault}
+use Rattle.pam_tables.specs.declared.times.error.TimeFault.TheVariants as time
 use Rattle.pam_words.specs.declared.wanted.Usage.{Usage}
 use Rattle.pam_words.specs.declared.wanted.Usage.TheVariants.{Help, Words}
 
@@ -59,6 +59,8 @@ row_of faults.TooManyStates = graph_row
 row_of faults.NoSuchModule = module_row
 row_of faults.NoSuchKey = key_row
 row_of faults.NoSuchNumber = number_row
+row_of faults.NoSuchService = service_row
+row_of faults.UnusedCandidate = candidate_row
 row_of (faults.Cursor e) = cursor_row e
 row_of faults.Device = write_row
 row_of faults.Memory = memory_row

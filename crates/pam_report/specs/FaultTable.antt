@@ -2,8 +2,8 @@
 use Rattle.std.specs.Prelude.{ℕ, List, codes}
 use Rattle.pam_codes.specs.declared.error.ControlError.{ControlError}
 use Rattle.pam_codes.specs.declared.error.ControlError.TheVariants.{BadControl, BadValue, BadAction, ZeroJump, OpenBracket}
-use Rattle.pam_accept.specs.declared.error.AcceptError.{AcceptError}
-use Rattle.pam_accept.specs.declared.error.AcceptError.TheVariants as accept
+use Rattle.pam_findings.specs.declared.accepted.error.AcceptError.{AcceptError}
+use Rattle.pam_findings.specs.declared.accepted.error.AcceptError.TheVariants as accept
 use Rattle.pam_text.specs.declared.source.SourceFault.TheVariants as source
 use Rattle.pam_conf.specs.declared.error.FaultKind.{FaultKind}
 use Rattle.pam_conf.specs.declared.error.FaultKind.TheVariants as conf
@@ -17,10 +17,10 @@ use Rattle.pam_tables.specs.declared.error.Table.{Table}
 use Rattle.pam_tables.specs.declared.error.Table.TheVariants.{Access, Group, Returns}
 use Rattle.pam_tables.specs.declared.error.TableFault.{TableFault}
 use Rattle.pam_tables.specs.declared.error.TableFault.TheVariants as table
-use Rattle.pam_times.specs.declared.error.TimeFault.{TimeFault}
-use Rattle.pam_times.specs.declared.error.TimeFault.TheVariants as time
-use Rattle.pam_times.specs.declared.moments.MomentError.{MomentError}
-use Rattle.pam_times.specs.declared.moments.MomentError.TheVariants as moment
+use Rattle.pam_tables.specs.declared.times.error.TimeFault.{TimeFault}
+use Rattle.pam_tables.specs.declared.times.error.TimeFault.TheVariants as time
+use Rattle.pam_tables.specs.declared.times.moments.MomentError.{MomentError}
+use Rattle.pam_tables.specs.declared.times.moments.MomentError.TheVariants as moment
 use Rattle.pam_words.specs.declared.wanted.Usage.{Usage}
 use Rattle.pam_words.specs.declared.wanted.Usage.TheVariants as usage
 
@@ -94,6 +94,12 @@ key_row = row (codes "U10 NoSuchKey") 2
 
 abbrev pub number_row : Row
 number_row = row (codes "U14 NoSuchNumber") 2
+
+abbrev pub service_row : Row
+service_row = row (codes "U18 NoSuchService") 2
+
+abbrev pub candidate_row : Row
+candidate_row = row (codes "U19 UnusedCandidate") 2
 
 abbrev pub count_row : Row
 count_row = row (codes "DE1 WrongCount") 2

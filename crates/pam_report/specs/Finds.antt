@@ -6,9 +6,9 @@ use Rattle.pam_conf.specs.declared.conf_error.ConfError.{ConfError}
 use Rattle.pam_tables.specs.declared.error.TableError.{TableError}
 use Rattle.pam_tables.specs.declared.error.TableFault.{TableFault}
 use Rattle.pam_tables.specs.declared.error.TableFault.TheVariants as reasons
-use Rattle.pam_times.specs.declared.error.TimeError.{TimeError}
-use Rattle.pam_times.specs.declared.error.TimeFault.{TimeFault}
-use Rattle.pam_times.specs.declared.error.TimeFault.TheVariants as times
+use Rattle.pam_tables.specs.declared.times.error.TimeError.{TimeError}
+use Rattle.pam_tables.specs.declared.times.error.TimeFault.{TimeFault}
+use Rattle.pam_tables.specs.declared.times.error.TimeFault.TheVariants as times
 use Rattle.pam_report.specs.Reply.{Answer}
 use Rattle.pam_report.specs.ReplyViews.{reply_view}
 use Rattle.pam_report.specs.declared.fault.Fault.{Fault}
@@ -39,6 +39,8 @@ Refuses IsAnswer faults.NoSuchKey = IsAnswer (Err faults.NoSuchKey)
 Refuses IsAnswer (faults.Facts e) = IsAnswer (Err (faults.Facts e))
 Refuses IsAnswer (faults.Accept e) = IsAnswer (Err (faults.Accept e))
 Refuses IsAnswer faults.NoSuchNumber = IsAnswer (Err faults.NoSuchNumber)
+Refuses IsAnswer faults.NoSuchService = IsAnswer (Err faults.NoSuchService)
+Refuses IsAnswer faults.UnusedCandidate = IsAnswer (Err faults.UnusedCandidate)
 Refuses IsAnswer (faults.Moment e) = IsAnswer (Err (faults.Moment e))
 Refuses IsAnswer (faults.Cursor e) = ⊥
 Refuses IsAnswer (faults.Table e) = IsTableFault IsAnswer e e.fault

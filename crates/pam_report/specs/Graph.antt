@@ -7,7 +7,7 @@ use Rattle.pam_dispatch.specs.Tree.{runs_of_stack}
 use Rattle.pam_dispatch.specs.declared.flat_item.FlatItem.{FlatItem}
 use Rattle.pam_graph.specs.Places.{AreEdgesOf}
 use Rattle.pam_graph.specs.Walks.{GraphValue, walks}
-use Rattle.pam_known.specs.Knowledge.{Agree}
+use Rattle.pam_facts.specs.known.Knowledge.{Agree}
 use Rattle.pam_paths.specs.Listing.{Allowance, IsListing}
 use Rattle.pam_paths.specs.Paths.{path_through}
 use Rattle.pam_words.specs.declared.wanted.GraphFormat.{GraphFormat}
@@ -31,7 +31,7 @@ pub record IsGraphOf (items : Items) (allows : Allowance) (graph : GraphValue) :
   pub listing : IsListing allows (module_count items) (path_through items) (walks graph)
   pub edges : AreEdgesOfStack items allows graph
 
--- a picture of so many nodes could not be read
+-- whether a picture of this number of nodes could not be read
 abbrev pub has_too_many : GraphFormat → GraphValue → Bool
 has_too_many Dot graph = false
 has_too_many Mermaid graph = false

@@ -6,8 +6,8 @@ use Rattle.std.specs.Global.{Global}
 use Rattle.jiff.specs.Types.{DateTime}
 use Rattle.pam_conf.specs.Files.{Folder}
 use Rattle.pam_conf.specs.declared.rule.Form.TheVariants.{Dir}
-use Rattle.pam_known.specs.Tables.{TablesText, TimedText}
-use Rattle.pam_table_check.specs.Tables.{TablesText as HostTablesText}
+use Rattle.pam_facts.specs.known.Tables.{TablesText, TimedText}
+use Rattle.pam_findings.specs.tables.Tables.{TablesText as HostTablesText}
 use Rattle.pam_tables.specs.Groups.{Group, groups_of}
 use Rattle.pam_tables.specs.declared.error.TableFault.{TableFault}
 use Rattle.pam_words.specs.declared.wanted.Task.{Task}
@@ -38,6 +38,11 @@ files_given inputs.Nothing = None
 abbrev pub paths_given : Inputs → List (List ℕ)
 paths_given (inputs.Host files paths given) = paths
 paths_given _ = []
+
+-- the position from which on the files of `check` are those that only the second folder has
+abbrev pub vendor_start_given : Inputs → ℕ
+vendor_start_given (inputs.Host files paths given) = given.vendor_start
+vendor_start_given _ = 0
 
 -- the paths at which a module is there, if that is known
 abbrev pub there_given : Inputs → Option (List (List ℕ))

@@ -4,11 +4,11 @@ use Rattle.jiff.specs.Types.{DateTime}
 use Rattle.pam_conf.specs.Stack.{Items}
 use Rattle.pam_conf.specs.declared.conf_error.ConfError.{ConfError}
 use Rattle.pam_conf.specs.declared.rule.Kind.{Kind}
-use Rattle.pam_known.specs.Knowledge.{allows_codes, knowledge}
-use Rattle.pam_known.specs.declared.error.KnownError.{KnownError}
+use Rattle.pam_facts.specs.known.Knowledge.{allows_codes, knowledge}
+use Rattle.pam_facts.specs.declared.known.error.KnownError.{KnownError}
 use Rattle.pam_paths.specs.Listing.{Allowance}
 use Rattle.pam_tables.specs.Login.{LoginText}
-use Rattle.pam_times.specs.declared.moments.MomentError.{MomentError}
+use Rattle.pam_tables.specs.declared.times.moments.MomentError.{MomentError}
 use Rattle.pam_report.specs.Fault.{known_fault}
 use Rattle.pam_report.specs.Inputs.{tables_given}
 use Rattle.pam_report.specs.Reply.{Answer}

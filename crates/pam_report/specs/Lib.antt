@@ -1,5 +1,6 @@
 pub mod Accepting
 pub mod Answer
+pub mod Candidates
 pub mod Check
 pub mod Compare
 pub mod ComparedKeys
@@ -10,15 +11,18 @@ pub mod Finds
 pub mod Graph
 pub mod Inputs
 pub mod KnownStack
+pub mod Laws
 pub mod Memory
 pub mod Moments
 pub mod Names
 pub mod Outcomes
 pub mod PageView
 pub mod Paths
+pub mod Refusal
 pub mod Released
 pub mod Reply
 pub mod ReplyViews
+pub mod Services
 pub mod Settings
 pub mod TablePaths
 pub mod TooLarge

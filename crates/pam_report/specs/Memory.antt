@@ -1,13 +1,13 @@
 -- Want of memory: the faults that a failed allocation may give, by the task.
 use Rattle.std.specs.Prelude.{◌≡◌, ◌≢◌, ⊤, Bool, ◌&&◌, true, false, is_some, Result, IfErr}
-use Rattle.pam_accept.specs.declared.error.AcceptError.TheVariants as accept
+use Rattle.pam_findings.specs.declared.accepted.error.AcceptError.TheVariants as accept
 use Rattle.pam_conf.specs.declared.error.FaultKind.TheVariants as conf
 use Rattle.pam_facts.specs.declared.error.FactsFault.TheVariants as facts
-use Rattle.pam_known.specs.Reads.{TablesRead}
+use Rattle.pam_facts.specs.known.Reads.{TablesRead}
 use Rattle.pam_tables.specs.declared.error.Table.{Table}
 use Rattle.pam_tables.specs.declared.error.Table.TheVariants.{Access as AccessTable, Group, Returns}
 use Rattle.pam_tables.specs.declared.error.TableFault.TheVariants as reasons
-use Rattle.pam_times.specs.declared.error.TimeFault.TheVariants as times
+use Rattle.pam_tables.specs.declared.times.error.TimeFault.TheVariants as times
 use Rattle.pam_words.specs.declared.wanted.Task.{Task}
 use Rattle.pam_words.specs.declared.wanted.Task.TheVariants.{Check, Compare, Show, Decide, Access, Time, Paths, Outcomes, Graph, Explain, Facts, Version}
 use Rattle.pam_report.specs.Inputs.{group_file, returns_given}

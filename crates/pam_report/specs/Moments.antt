@@ -2,9 +2,9 @@
 use Rattle.std.specs.Prelude.{◌≡◌, ⊤, ℕ, ℤ, List, IsSome, Option, None, Some, Result, Ok, Err}
 use Rattle.jiff.specs.Types.{DateTime}
 use Rattle.jiff.specs.Words.{read_whole}
-use Rattle.pam_times.specs.Moments.{Exist, HasParts, IsInstant, Shows, parts_of}
-use Rattle.pam_times.specs.declared.moments.MomentError.{MomentError}
-use Rattle.pam_times.specs.declared.moments.MomentError.TheVariants as moments
+use Rattle.pam_tables.specs.times.Moments.{Exist, HasParts, IsInstant, Shows, parts_of}
+use Rattle.pam_tables.specs.declared.times.moments.MomentError.{MomentError}
+use Rattle.pam_tables.specs.declared.times.moments.MomentError.TheVariants as moments
 use Rattle.pam_words.specs.declared.wanted.Moment.{Moment}
 use Rattle.pam_words.specs.declared.wanted.Moment.TheVariants.{Civil, Instant}
 

@@ -2,8 +2,10 @@
 use Rattle.std.specs.Prelude.{ℕ, List, codes, Option, Some, None}
 use Rattle.pam_conf.specs.declared.rule.Kind.{Kind}
 use Rattle.pam_conf.specs.declared.rule.Kind.TheVariants.{Auth, Account, Password, Session}
-use Rattle.pam_host.specs.declared.problem.Problem.{Problem}
-use Rattle.pam_host.specs.declared.problem.Problem.TheVariants as problems
+use Rattle.pam_findings.specs.declared.host.problem.ArgumentProblem.{ArgumentProblem}
+use Rattle.pam_findings.specs.declared.host.problem.ArgumentProblem.TheVariants as arguments
+use Rattle.pam_findings.specs.declared.host.problem.Problem.{Problem}
+use Rattle.pam_findings.specs.declared.host.problem.Problem.TheVariants as problems
 use Rattle.pam_released.specs.Meanings.{name_of}
 use Rattle.pam_report.specs.FaultTable.{conf_row}
 
@@ -13,11 +15,18 @@ kind_name Account = codes "account"
 kind_name Password = codes "password"
 kind_name Session = codes "session"
 
+abbrev pub argument_name : ArgumentProblem → List ℕ
+argument_name (arguments.Unknown reaction) = codes "S15 UnknownArgument"
+argument_name arguments.Longer = codes "S16 LongerWord"
+argument_name arguments.OtherKind = codes "S17 ArgumentOfOtherKind"
+argument_name arguments.BadValue = codes "S18 BadValue"
+
 -- the number and the name
 unfoldable pub problem_name : Problem → List ℕ
 problem_name (problems.Fault fault) = (conf_row fault).name
 problem_name (problems.Walk fault) = (conf_row fault).name
 problem_name (problems.Released difference) = name_of difference
+problem_name (problems.IncludedFromVendor is_at_include) = codes "L10 IncludedFromVendor"
 problem_name problems.EmptySeparator = codes "A5 EmptySeparator"
 problem_name (problems.LetsNobodyIn service kind) = codes "S1 LetsNobodyIn"
 problem_name (problems.LetsAnybodyIn service) = codes "S2 LetsAnybodyIn"
@@ -32,6 +41,7 @@ problem_name problems.LeftOver = codes "S11 LeftOver"
 problem_name problems.JumpIntoInclude = codes "S12 JumpIntoInclude"
 problem_name problems.NoFunction = codes "S13 NoFunction"
 problem_name problems.CallerIsRoot = codes "S14 CallerIsRoot"
+problem_name (problems.Argument argument wrong) = argument_name wrong
 
 -- the service and the kind of a problem of a whole stack
 abbrev pub stack_of : Problem → Option (ℕ × Kind)

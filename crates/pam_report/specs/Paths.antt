@@ -8,7 +8,7 @@ use Rattle.pam_dispatch.specs.declared.flat_item.FlatItem.{FlatItem}
 use Rattle.pam_graph.specs.Walks.{GraphValue, walks}
 use Rattle.pam_graph.specs.declared.goal.Goal.{Goal}
 use Rattle.pam_graph.specs.declared.goal.Goal.TheVariants as goals
-use Rattle.pam_known.specs.Knowledge.{Agree}
+use Rattle.pam_facts.specs.known.Knowledge.{Agree}
 use Rattle.pam_paths.specs.Cursor.{IsAccepted, IsRefusal}
 use Rattle.pam_paths.specs.CursorText.{IsCursor, cursor_text}
 use Rattle.pam_paths.specs.Listing.{Allowance, IsListing, IsListingAfter, IsListingBefore}

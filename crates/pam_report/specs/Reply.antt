@@ -11,21 +11,21 @@ use Rattle.pam_conf.specs.declared.rule.Kind.{Kind}
 use Rattle.pam_dispatch.specs.declared.flat_item.FlatItem.{FlatItem}
 use Rattle.pam_explain.specs.Explanation.{Explanation}
 use Rattle.pam_graph.specs.Walks.{GraphValue}
-use Rattle.pam_host.specs.Levels.{level_of}
-use Rattle.pam_host.specs.declared.level.Level.{Level}
-use Rattle.pam_host.specs.declared.level.Level.TheVariants as levels
-use Rattle.pam_host.specs.declared.problem.Place.{Place}
-use Rattle.pam_host.specs.declared.report.Finding.{Finding}
-use Rattle.pam_host.specs.declared.way_in.WayIn.{WayIn}
+use Rattle.pam_findings.specs.host.Levels.{level_of}
+use Rattle.pam_findings.specs.declared.host.level.Level.{Level}
+use Rattle.pam_findings.specs.declared.host.level.Level.TheVariants as levels
+use Rattle.pam_findings.specs.declared.host.problem.Place.{Place}
+use Rattle.pam_findings.specs.declared.host.report.Finding.{Finding}
+use Rattle.pam_findings.specs.declared.host.way_in.WayIn.{WayIn}
 use Rattle.pam_graph.specs.declared.goal.Goal.{Goal}
-use Rattle.pam_misspelled.specs.Misspelled.{MisspelledText}
+use Rattle.pam_findings.specs.misspelled.Misspelled.{MisspelledText}
 use Rattle.pam_paths.specs.Listing.{Allowance}
 use Rattle.pam_paths.specs.Paths.{PathValue}
 use Rattle.pam_tables.specs.declared.access.AccessAnswer.{AccessAnswer}
 use Rattle.pam_tables.specs.declared.access.AccessAnswer.TheVariants as access
-use Rattle.pam_table_check.specs.declared.problem.TableFinding.{TableFinding}
-use Rattle.pam_times.specs.declared.times.TimeAnswer.{TimeAnswer}
-use Rattle.pam_times.specs.declared.times.TimeAnswer.TheVariants as times
+use Rattle.pam_findings.specs.declared.tables.problem.TableFinding.{TableFinding}
+use Rattle.pam_tables.specs.declared.times.table.TimeAnswer.{TimeAnswer}
+use Rattle.pam_tables.specs.declared.times.table.TimeAnswer.TheVariants as times
 use Rattle.pam_words.specs.declared.wanted.GraphFormat.{GraphFormat}
 use Rattle.pam_words.specs.declared.wanted.LevelName.{LevelName}
 use Rattle.pam_words.specs.declared.wanted.LevelName.TheVariants as names

@@ -4,7 +4,7 @@ use Rattle.std.specs.Borrow.{Bor}
 use Rattle.std.specs.Prelude.{[], Option, map, option_map, unwrap_or}
 use Rattle.pam_conf.specs.Files.{Folder}
 use Rattle.pam_explain.specs.Views.{explanation_view}
-use Rattle.pam_misspelled.specs.MisspelledView.{misspelled_view}
+use Rattle.pam_findings.specs.misspelled.MisspelledView.{misspelled_view}
 use Rattle.pam_report.specs.Decide.{AskedModule}
 use Rattle.pam_report.specs.Inputs.{no_files}
 use Rattle.pam_report.specs.PageView.{page_value}

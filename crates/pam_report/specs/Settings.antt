@@ -7,12 +7,12 @@ use Rattle.std.specs.Str.{bytes_eq}
 use Rattle.pam_conf.specs.Files.{Folder}
 use Rattle.pam_conf.specs.Stack.{Items, ModuleText, module_at}
 use Rattle.pam_facts.specs.Missing.{where_there}
-use Rattle.pam_known.specs.Answers.{name_of_path}
-use Rattle.pam_known.specs.Knowledge.{numbers}
+use Rattle.pam_facts.specs.known.Answers.{name_of_path}
+use Rattle.pam_facts.specs.known.Knowledge.{numbers}
 use Rattle.pam_report.specs.KnownStack.{KnownItems}
 use Rattle.pam_report.specs.declared.fault.Fault.{Fault}
 use Rattle.pam_report.specs.declared.fault.Fault.TheVariants as faults
-use Rattle.pam_settings.specs.Settings.{SettingText}
+use Rattle.pam_facts.specs.settings.Settings.{SettingText}
 
 -- the name of the file of a module's rule
 abbrev pub file_of : Folder → ModuleText → List ℕ

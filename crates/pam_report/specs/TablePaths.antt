@@ -1,18 +1,18 @@
 -- The paths of the tables of a host, and what their problems are called.
 use Rattle.std.specs.Prelude.{ℕ, List}
-use Rattle.pam_host.specs.declared.level.Level.{Level}
-use Rattle.pam_host.specs.declared.level.Level.TheVariants.{Error, Note, Warning}
-use Rattle.pam_old_tables.specs.Meanings.{name_of}
-use Rattle.pam_old_tables.specs.declared.difference.TableDifference.{TableDifference}
-use Rattle.pam_old_tables.specs.declared.difference.TableDifference.TheVariants.{Loopback, FinishMinute}
-use Rattle.pam_table_check.specs.declared.problem.HostTable.{HostTable}
-use Rattle.pam_table_check.specs.declared.problem.HostTable.TheVariants.{Groups, Access, Time}
-use Rattle.pam_table_check.specs.declared.problem.TableProblem.{TableProblem}
-use Rattle.pam_table_check.specs.declared.problem.TableProblem.TheVariants as problems
+use Rattle.pam_findings.specs.declared.host.level.Level.{Level}
+use Rattle.pam_findings.specs.declared.host.level.Level.TheVariants.{Error, Note, Warning}
+use Rattle.pam_released.specs.tables.Meanings.{name_of}
+use Rattle.pam_released.specs.declared.tables.difference.TableDifference.{TableDifference}
+use Rattle.pam_released.specs.declared.tables.difference.TableDifference.TheVariants.{Loopback, FinishMinute}
+use Rattle.pam_findings.specs.declared.tables.problem.HostTable.{HostTable}
+use Rattle.pam_findings.specs.declared.tables.problem.HostTable.TheVariants.{Groups, Access, Time}
+use Rattle.pam_findings.specs.declared.tables.problem.TableProblem.{TableProblem}
+use Rattle.pam_findings.specs.declared.tables.problem.TableProblem.TheVariants as problems
 use Rattle.pam_tables.specs.declared.error.TableFault.{TableFault}
 use Rattle.pam_tables.specs.declared.error.TableFault.TheVariants as faults
-use Rattle.pam_times.specs.declared.error.TimeFault.{TimeFault}
-use Rattle.pam_times.specs.declared.error.TimeFault.TheVariants as times
+use Rattle.pam_tables.specs.declared.times.error.TimeFault.{TimeFault}
+use Rattle.pam_tables.specs.declared.times.error.TimeFault.TheVariants as times
 use Rattle.pam_report.specs.FaultTable.{table_row, time_row}
 use Rattle.pam_report.specs.declared.tables.TablePaths.{TablePaths}
 

@@ -6,7 +6,7 @@ use Rattle.pam_dispatch.specs.Tree.{runs_of_stack}
 use Rattle.pam_dispatch.specs.declared.flat_item.FlatItem.{FlatItem}
 use Rattle.pam_graph.specs.Reached.{HasMorePlaces}
 use Rattle.pam_graph.specs.declared.graph.TheConstants.{MAX_NODES}
-use Rattle.pam_known.specs.Knowledge.{Agree}
+use Rattle.pam_facts.specs.known.Knowledge.{Agree}
 use Rattle.pam_paths.specs.Listing.{Allowance}
 
 -- the run of a stack comes to more places than a graph may have nodes, if modules return codes that are allowed

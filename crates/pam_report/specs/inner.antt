@@ -1,6 +1,7 @@
 -- What no public contract cites.
 pub mod Accepting
 pub mod Answer
+pub mod Candidates
 pub mod Check
 pub mod Compare
 pub mod FaultViews
@@ -9,4 +10,5 @@ pub mod Known
 pub mod Memory
 pub mod OutcomeViews
 pub mod PageView
+pub mod Services
 pub mod Tasks

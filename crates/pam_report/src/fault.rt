@@ -7,26 +7,28 @@ ghost use Rattle.pam_report.specs.Fault.{IsNumbered};
 ghost use Rattle.pam_report.specs.FaultTable.{conf_row as conf_fault_row, table_row as table_fault_row, time_row as time_fault_row};
 ghost use Rattle.pam_report.specs.inner.FaultViews.{row_view};
 
+mod refusal;
 mod row;
 mod table;
 
 use crate::inputs::InputError;
-use pam_accept::AcceptError;
 use pam_codes::Piece;
 use pam_conf::{ConfError, FaultKind, Files};
 use pam_dispatch::WrongCount;
+use pam_facts::known::KnownError;
 use pam_facts::{FactsError, FactsFault};
-use pam_known::KnownError;
+use pam_findings::accepted::AcceptError;
 use pam_paths::CursorError;
+use pam_tables::times::{MomentError, TimeError, TimeFault};
 use pam_tables::{TableError, TableFault};
-use pam_times::{MomentError, TimeError, TimeFault};
 use pam_words::Usage;
+pub use refusal::refusal_text;
 use row::Row;
 use std::alloc::{AllocError, Global};
 use table::{
-    accept_row, conf_row, count_row, cursor_row, facts_row, graph_row, input_row, key_row,
-    memory_row, module_row, moment_row, number_row, table_name, table_row, time_row, usage_row,
-    write_row,
+    accept_row, candidate_row, conf_row, count_row, cursor_row, facts_row, graph_row, input_row,
+    key_row, memory_row, module_row, moment_row, number_row, service_row, table_name, table_row,
+    time_row, usage_row, write_row,
 };
 use thiserror::Error;
 
@@ -66,6 +68,12 @@ pub enum Fault {
     /// No fault or finding has the number that is to be explained.
     #[error("there is no such number")]
     NoSuchNumber,
+    /// The configuration has no file and no rule of a service that is named.
+    #[error("there is no such service")]
+    NoSuchService,
+    /// No service that is checked reads the file of a candidate.
+    #[error("no service that is checked reads a candidate")]
+    UnusedCandidate,
     /// No path of the stack has the cursor.
     #[error(transparent)]
     Cursor(CursorError),
@@ -123,6 +131,8 @@ fn row_of(fault: &Fault) -> Row
         Fault::NoSuchModule => module_row(),
         Fault::NoSuchKey => key_row(),
         Fault::NoSuchNumber => number_row(),
+        Fault::NoSuchService => service_row(),
+        Fault::UnusedCandidate => candidate_row(),
         Fault::Cursor(error) => cursor_row(*error),
         Fault::Device => write_row(),
         Fault::Memory => memory_row(),
@@ -272,6 +282,8 @@ pub fn fault_text(alloc: Global, fault: &Fault, files: &Files) -> Result<Vec<u8>
         | Fault::NoSuchModule
         | Fault::NoSuchKey
         | Fault::NoSuchNumber
+        | Fault::NoSuchService
+        | Fault::UnusedCandidate
         | Fault::Device
         | Fault::Memory => line(alloc, row, &[]),
     }

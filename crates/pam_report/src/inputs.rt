@@ -60,6 +60,8 @@ pub struct TableFiles {
 /// What a check is given besides the configuration.
 #[derive(Drop)]
 pub struct CheckInputs {
+    /// The position from which on the files are those that only the second folder has; without a second folder the number of files.
+    pub vendor_start: usize,
     /// The paths at which a module is there, as rules write them; `None` if that is not known.
     pub there: Option<Texts>,
     /// The tables that are named, and those of a root that are there.

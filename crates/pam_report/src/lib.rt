@@ -2,14 +2,18 @@
 //! A request that has no reply gets the line and the exit status of its first fault.
 #![tactic(auto)]
 
+mod candidates;
 mod fault;
 mod inputs;
+pub mod laws;
 mod names;
 mod report;
+mod services;
 mod tables;
 
 pub use fault::{
-    Fault, conf_name, fault_status, fault_text, input_status, input_text, usage_status, usage_text,
+    Fault, conf_name, fault_status, fault_text, input_status, input_text, refusal_text,
+    usage_status, usage_text,
 };
 pub use inputs::{
     CheckInputs, InputError, Inputs, KnowledgeInputs, SideInputs, TableFile, TableFiles,

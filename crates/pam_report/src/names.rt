@@ -5,7 +5,7 @@ ghost use Rattle.pam_report.specs.Names as spec;
 
 use crate::fault::conf_name;
 use pam_conf::Kind;
-use pam_host::Problem;
+use pam_findings::host::{ArgumentProblem, Problem};
 
 /// Returns the name of a kind.
 pub fn kind_name(kind: Kind) -> &'static str
@@ -19,6 +19,17 @@ pub fn kind_name(kind: Kind) -> &'static str
     }
 }
 
+fn argument_name(wrong: ArgumentProblem) -> &'static str
+    ensures { result.now ≡ spec.argument_name wrong }
+{
+    match wrong {
+        ArgumentProblem::Unknown(_) => "S15 UnknownArgument",
+        ArgumentProblem::Longer => "S16 LongerWord",
+        ArgumentProblem::OtherKind => "S17 ArgumentOfOtherKind",
+        ArgumentProblem::BadValue => "S18 BadValue",
+    }
+}
+
 /// Returns the number and the name of a problem, as `S2 LetsAnybodyIn`.
 #[tactic(auto, unfolding(crate::specs::Names::problem_name))]
 pub fn problem_name(problem: Problem) -> &'static str
@@ -27,6 +38,7 @@ pub fn problem_name(problem: Problem) -> &'static str
     match problem {
         Problem::Fault(fault) | Problem::Walk(fault) => conf_name(fault),
         Problem::Released(difference) => difference.name(),
+        Problem::IncludedFromVendor { .. } => "L10 IncludedFromVendor",
         Problem::EmptySeparator => "A5 EmptySeparator",
         Problem::LetsNobodyIn { .. } => "S1 LetsNobodyIn",
         Problem::LetsAnybodyIn { .. } => "S2 LetsAnybodyIn",
@@ -41,6 +53,7 @@ pub fn problem_name(problem: Problem) -> &'static str
         Problem::JumpIntoInclude => "S12 JumpIntoInclude",
         Problem::NoFunction => "S13 NoFunction",
         Problem::CallerIsRoot => "S14 CallerIsRoot",
+        Problem::Argument { wrong, .. } => argument_name(wrong),
     }
 }
 

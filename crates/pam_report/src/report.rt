@@ -1,12 +1,13 @@
 //! Replies to requests: each is computed, and nothing is written.
 
-ghost use Rattle.std.specs.Prelude.{◌≡◌, ◌≤◌, is_some, unwrap_or};
+ghost use Rattle.std.specs.Prelude.{◌≡◌, ◌≤◌, is_some, map, unwrap_or};
 ghost use Rattle.pam_report.specs.Answer.{AnswersBy, Replies};
 ghost use Rattle.pam_report.specs.Finds.{Finds};
 ghost use Rattle.pam_report.specs.Inputs.{files_given, no_files};
 ghost use Rattle.pam_report.specs.Memory.{WantsOnly, wants};
 ghost use Rattle.pam_report.specs.Moments.{IsGivenMoment};
 ghost use Rattle.pam_report.specs.Reply.{status_number};
+ghost use Rattle.pam_words.specs.Wanted.{candidate_view};
 ghost use Rattle.pam_report.specs.inner.Tasks.{IsAboutRuns, IsAboutService};
 
 mod accepting;
@@ -92,7 +93,7 @@ pub fn reply_to<'a>(
     request: &Request<'a>,
     inputs: &'a Inputs,
 ) -> Result<Reply<'a>, Fault>
-    ensures { Replies result request.now.service.now request.now.task inputs.now }
+    ensures { Replies result request.now.service.now (map candidate_view request.now.candidates.items) request.now.task inputs.now }
 {
     match inputs.files() {
         Some(files) => reply_from(alloc, request, files, inputs),
@@ -147,7 +148,7 @@ fn reply_about_runs<'a>(
     inputs: &'a Inputs,
 ) -> Result<Reply<'a>, Fault>
     requires { IsAboutRuns request.now.task }
-    ensures answer { AnswersBy (Finds result) request.now.service.now request.now.task files.now inputs.now }
+    ensures answer { AnswersBy (Finds result) request.now.service.now (map candidate_view request.now.candidates.items) request.now.task files.now inputs.now }
     ensures wants { WantsOnly (wants request.now.task inputs.now) result }
 {
     let service = request.service;
@@ -202,7 +203,7 @@ fn reply_about_service<'a>(
 ) -> Result<Reply<'a>, Fault>
     requires files { unwrap_or (files_given inputs.now) no_files ≡ files.now }
     requires task { IsAboutService request.now.task }
-    ensures answer { AnswersBy (Finds result) request.now.service.now request.now.task files.now inputs.now }
+    ensures answer { AnswersBy (Finds result) request.now.service.now (map candidate_view request.now.candidates.items) request.now.task files.now inputs.now }
     ensures wants { WantsOnly (wants request.now.task inputs.now) result }
 {
     let service = request.service;
@@ -238,7 +239,7 @@ fn reply_from<'a>(
     inputs: &'a Inputs,
 ) -> Result<Reply<'a>, Fault>
     requires { unwrap_or (files_given inputs.now) no_files ≡ files.now }
-    ensures answer { AnswersBy (Finds result) request.now.service.now request.now.task files.now inputs.now }
+    ensures answer { AnswersBy (Finds result) request.now.service.now (map candidate_view request.now.candidates.items) request.now.task files.now inputs.now }
     ensures wants { WantsOnly (wants request.now.task inputs.now) result }
 {
     match &request.task {
@@ -250,6 +251,7 @@ fn reply_from<'a>(
         } => {
             let asked = CheckRequest {
                 services,
+                candidates: &request.candidates,
                 fail_on: *fail_on,
                 given,
             };

@@ -4,11 +4,11 @@ ghost use Rattle.std.specs.Prelude.{◌≡◌};
 ghost use Rattle.pam_report.specs.TablePaths as spec;
 
 use crate::fault::{table_fault_name, time_fault_name};
-use pam_host::Level;
-use pam_old_tables::TableDifference;
-use pam_table_check::{HostTable, TableProblem};
+use pam_findings::host::Level;
+use pam_findings::tables::{HostTable, TableProblem};
+use pam_released::tables::TableDifference;
 use pam_tables::TableFault;
-use pam_times::TimeFault;
+use pam_tables::times::TimeFault;
 
 /// The path under which each table was read; empty if it is not given.
 #[derive(Clone, Copy)]

@@ -16,4 +16,5 @@ pub mod OptionSteps
 pub mod PieceSteps
 pub mod ReadSteps
 pub mod ReturnSteps
+pub mod TimesProofs
 pub mod TokenSteps

@@ -13,3 +13,4 @@ pub mod Options
 pub mod Returns
 pub mod Tokens
 pub mod inner
+pub mod times

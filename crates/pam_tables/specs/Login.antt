@@ -1,6 +1,6 @@
 -- A login, and where it comes from: access.conf(5), pam_access(8).
 use Rattle.std.specs.Prelude.{ℕ, List, length, ◌==◌, not, if◌then◌else◌}
-pub use Rattle.pam_times.specs.Login.{LoginText, login_view, without_dev}
+pub use Rattle.pam_tables.specs.times.Login.{LoginText, login_view, without_dev}
 
 -- the origin of a login: a remote host, or a local place
 pub data OriginText : Type 0 where

@@ -17,10 +17,10 @@ use crate::login::Origin;
 use crate::memberships::Memberships;
 use crate::options::AccessOptions;
 use crate::origins::check_origins;
+use crate::times::Login;
 use crate::tokens::{has_token, list_matches};
 use crate::users::{UserMatcher, check_users};
 use pam_text::{ByteSet, Source, cut_among};
-use pam_times::Login;
 use std::alloc::Global;
 use std::marker::Model;
 

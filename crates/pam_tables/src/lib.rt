@@ -1,5 +1,5 @@
 //! Access tables (access.conf(5)), group files (group(5)) and returns files, which say what modules may return.
-//! Re-exports the time tables and moments of `pam_times`.
+//! And time tables (time.conf(5)), with the moments at which they grant a login.
 #![tactic(auto)]
 
 mod access;
@@ -20,6 +20,7 @@ mod origins;
 pub mod parts;
 mod pieces;
 mod returns;
+pub mod times;
 mod tokens;
 mod users;
 
@@ -29,7 +30,5 @@ pub use faults::{access_faults, group_faults};
 pub use groups::Groups;
 pub use lines::MAX_TABLE_BYTES;
 pub use options::AccessOptions;
-pub use pam_times::{
-    Login, MomentError, TimeAnswer, TimeError, TimeFault, TimeTable, civil, moment,
-};
 pub use returns::ReturnTable;
+pub use times::{Login, MomentError, TimeAnswer, TimeError, TimeFault, TimeTable, civil, moment};

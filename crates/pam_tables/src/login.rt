@@ -5,7 +5,7 @@ ghost use Rattle.pam_tables.specs.Login.{login_view, origin_of};
 ghost use Rattle.pam_tables.specs.inner.Login.{origin_view, IsKnown};
 
 use crate::address::Address;
-use pam_times::{Login, drop_dev};
+use crate::times::{Login, drop_dev};
 
 /// The origin of a login.
 #[derive(Clone, Copy)]

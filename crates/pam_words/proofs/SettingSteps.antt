@@ -3,8 +3,8 @@ use Rattle.std.proofs.Common.{◌≡◌, ◌∙◌, ◌+◌, ◌++◌, ℕ, Bool
 use Rattle.std.proofs.Common.{length, map, not, refl, sym}
 use Rattle.std.specs.List.{after_first, before_first, list_any, position_or_len}
 use Rattle.std.specs.Global.{Global}
-use Rattle.pam_settings.specs.Settings.{SettingText, setting_view}
-use Rattle.pam_settings.specs.declared.setting.Setting.{Setting}
+use Rattle.pam_facts.specs.settings.Settings.{SettingText, setting_view}
+use Rattle.pam_facts.specs.declared.settings.setting.Setting.{Setting}
 use Rattle.pam_words.specs.Asked.{Refusal}
 use Rattle.pam_words.specs.Asked as spec
 use Rattle.clap.specs.Lexer.{name_and_value}

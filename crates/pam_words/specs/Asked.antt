@@ -2,7 +2,7 @@
 use Rattle.std.specs.Prelude.{ℕ, ℤ, List, Option}
 use Rattle.pam_conf.specs.declared.Kind.{Kind}
 use Rattle.clap.specs.Words.{Text}
-use Rattle.pam_settings.specs.Settings.{SettingText}
+use Rattle.pam_facts.specs.settings.Settings.{SettingText}
 use Rattle.pam_words.specs.declared.wanted.GraphFormat.{GraphFormat}
 use Rattle.pam_words.specs.declared.wanted.LevelName.{LevelName}
 use Rattle.pam_words.specs.declared.wanted.OutputForm.{OutputForm}

@@ -7,6 +7,7 @@ use Rattle.pam_words.specs.Asked.{KnowledgeText, MomentText, Refusal, RequestTex
 use Rattle.pam_words.specs.Asked.{access, check, compare, decide, explain, facts, graph, outcomes, paths, show, time, version}
 use Rattle.pam_words.specs.Asked.{both_ends, both_filters, code_name, format_name, kind_name, level_name}
 use Rattle.pam_words.specs.Asked.{login, moment, release_form, source}
+use Rattle.pam_words.specs.Candidates.{services_among}
 use Rattle.pam_words.specs.Decisions.{decisions_of}
 use Rattle.pam_words.specs.Settings.{settings_of}
 use Rattle.pam_words.specs.Values.{asks_of, candidates_of, codes_of_rows, format_of, kind_if_named, kind_of_rows, lacks_user, level_of, limit_of, login_of}
@@ -36,7 +37,7 @@ check_task rows =
     or_refuse (level_of rows) level_name (λ level.
     Ok (check (record {
       source = from;
-      services = texts_of (codes "name") rows;
+      services = services_among (texts_of (codes "name") rows);
       fail_on = level;
       modules = texts_of (codes "modules") rows;
       access = first_of (codes "access") rows;

@@ -2,7 +2,7 @@
 use Rattle.std.specs.Prelude.{ℕ, List, [], ◌∷◌, codes, Option, Some, None, Result, Ok, Err}
 use Rattle.clap.specs.Lexer.{name_and_value}
 use Rattle.clap.specs.Words.{Row, Text}
-use Rattle.pam_settings.specs.Settings.{SettingText}
+use Rattle.pam_facts.specs.settings.Settings.{SettingText}
 use Rattle.pam_words.specs.Asked.{Refusal, code_name, setting_form}
 use Rattle.pam_words.specs.Decisions.{set_of_text}
 use Rattle.pam_words.specs.Values.{texts_of}

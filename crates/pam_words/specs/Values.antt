@@ -1,5 +1,5 @@
 -- The command line: the values that the rows found by `clap` spell.
-use Rattle.std.specs.Prelude.{Bool, ◌&&◌, ◌||◌, true, false, not, ℕ, ℤ, pos, nat_le, nat_lt, List, [], codes, length}
+use Rattle.std.specs.Prelude.{Bool, ◌&&◌, ◌||◌, true, false, not, ℕ, ℤ, pos, nat_le, nat_lt, List, [], ◌++◌, codes, length, map}
 use Rattle.std.specs.Prelude.{Option, Some, None, Result, is_some, option_map, unwrap_or, if◌then◌else◌}
 use Rattle.std.specs.Char.{is_ascii_digit}
 use Rattle.std.specs.List.{list_all}
@@ -11,7 +11,7 @@ use Rattle.pam_conf.specs.declared.Kind.{Kind}
 use Rattle.clap.specs.ValueTests.{accepts}
 use Rattle.clap.specs.Words.{Row, Text, all_of, first_of}
 use Rattle.pam_words.specs.Asked.{LoginText, MomentText, PartText, Refusal, SourceText, after, before, civil, conf, dir, instant, over, root, whole}
-use Rattle.pam_words.specs.Candidates.{candidates_beside}
+use Rattle.pam_words.specs.Candidates.{candidates_beside, files_among, given_by}
 use Rattle.pam_words.specs.Decisions.{codes_named}
 use Rattle.pam_words.specs.Words.{number_parser}
 use Rattle.pam_words.specs.declared.wanted.GraphFormat.{GraphFormat}
@@ -73,9 +73,12 @@ side_of true true name = None
 abbrev pub side_in : Text → List Row → Option SourceText
 side_in id rows = side_of (is_on (codes "conf") rows) (is_on (codes "root") rows) (text_of id rows)
 
--- the candidates for files of the source
+-- the candidates for files of the source: those of the words of `check`, and then those of `--with`
+abbrev pub candidates_given : List Row → List (Text × Text)
+candidates_given rows = files_among (texts_of (codes "name") rows) ++ map given_by (texts_of (codes "with") rows)
+
 abbrev pub candidates_of : List Row → Result (List (Text × Text)) Refusal
-candidates_of rows = candidates_beside (has (codes "conf") rows) (all_of (codes "with") rows)
+candidates_of rows = candidates_beside (has (codes "conf") rows) (candidates_given rows)
 
 abbrev pub kind_of_rows : List Row → Option Kind
 kind_of_rows rows = kind_named (text_of (codes "kind") rows)

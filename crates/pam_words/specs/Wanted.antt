@@ -4,7 +4,7 @@ use Rattle.std.specs.Option.{option_copied}
 use Rattle.clap.specs.Words.{IsAmong, Kinds, Text, kind_of}
 use Rattle.clap.specs.declared.error.ErrorKind.TheVariants.{DisplayHelp, DisplayVersion}
 use Rattle.clap.specs.declared.error.ErrorKind.{ErrorKind}
-use Rattle.pam_settings.specs.Settings.{setting_view}
+use Rattle.pam_facts.specs.settings.Settings.{setting_view}
 use Rattle.pam_words.specs.Asked.{KnowledgeText, LoginText, MomentText, PartText, Refusal, RequestText, SourceText, TaskText}
 use Rattle.pam_words.specs.Asked as spec
 use Rattle.pam_words.specs.declared.wanted.Candidate.{Candidate}

@@ -50,7 +50,7 @@ pub(crate) const SERVICES: ArgRow = ArgRow {
     form: ArgForm::Repeated,
     id: "name",
     name: "SERVICE",
-    help: "The services to check; all if left out",
+    help: "The services to check, or files for them, as ./sshd; all if left out",
 };
 
 pub(crate) const CODES: ArgRow = ArgRow {

@@ -2,7 +2,7 @@
 
 use pam_codes::{Code, CodeSet};
 use pam_conf::Kind;
-use pam_settings::Setting;
+use pam_facts::settings::Setting;
 use pam_text::Texts;
 use thiserror::Error;
 
@@ -220,7 +220,8 @@ pub enum Task<'a> {
 /// A file that is read in place of the file of a name, or beside the others if there is none: a change that is not yet made.
 #[derive(Clone, Copy)]
 pub struct Candidate<'a> {
-    pub name: &'a str,
+    /// A name without a slash, as files of a folder have them.
+    pub name: &'a [u8],
     pub file: &'a str,
 }
 
@@ -229,7 +230,8 @@ pub struct Candidate<'a> {
 pub struct Request<'a> {
     pub service: &'a str,
     pub task: Task<'a>,
-    /// The candidates for files of the source, none for a command without one. Of several for one name, the first counts.
+    /// The candidates for files of the source, none for a command without one: the SERVICE words of `check` that are files, and then
+    /// those of `--with`. Of several for one name, the first counts.
     pub candidates: Vec<Candidate<'a>>,
     pub output: OutputForm,
 }
@@ -282,7 +284,8 @@ pub enum Usage {
     /// U16: the value of `--as` is not the name of a release, or one is given beside `--json`.
     #[error("a release that is unknown, or beside --json")]
     ReleaseForm,
-    /// U15: a value of `--with` is not NAME=FILE, or one is given beside `--conf`.
+    /// U15: a value of `--with` is not NAME=FILE, its NAME has a slash, a SERVICE that is a file ends in a slash, or any of these
+    /// is given beside `--conf`.
     #[error("a candidate that is not NAME=FILE, or beside --conf")]
     CandidateForm,
     /// U7: an allocation failed.

@@ -1,7 +1,7 @@
 //! Explains what a stack of PAM modules can decide.
 #![tactic(auto)]
 
-use pam_cli::{refuse, refuse_without_memory, run};
+use pam_cli::{Host, refuse, refuse_without_memory, run};
 use pam_codes::Out;
 use pam_words::Usage;
 use std::alloc::Global;
@@ -30,7 +30,7 @@ fn usage_of(error: &io::Error) -> Usage {
 /// Runs the program with a buffer for standard output, and returns the exit status.
 fn status<V: Write>(rt: &HostRuntime, alloc: Global, words: &[String], err: &mut Out<V>) -> u8 {
     match BufWriter::with_capacity(alloc, BUFFER_BYTES, io::writer(rt)) {
-        Ok(writer) => run(rt, alloc, words, &mut Out::new(writer), err),
+        Ok(writer) => run(&Host::new(rt), alloc, words, &mut Out::new(writer), err),
         Err(_) => refuse_without_memory(alloc, err),
     }
 }

@@ -2,7 +2,7 @@
 
 use crate::released::bytes_of_words;
 use anyhow::Error;
-use pam_old_tables::{TableFinding, access_findings, has_empty_separator, time_findings};
+use pam_released::tables::{TableFinding, access_findings, has_empty_separator, time_findings};
 use pam_tables::AccessOptions;
 use pam_text::{Source, Texts};
 use std::alloc::Global;

@@ -1,6 +1,7 @@
 //! The tests, by what they test.
 
 mod answers;
+mod arguments;
 mod controls;
 mod faults;
 mod files;

@@ -1,10 +1,12 @@
 -- For private contracts and proofs alone: what is read for a task.
-use Rattle.std.specs.Prelude.{◌≡◌, ◌⊎◌, ◌&&◌, ⊤, Bool, true, ℕ, List, [], ◌∷◌, Option, Result, Ok, Err, is_some, map}
+use Rattle.std.specs.Prelude.{◌≡◌, ◌⊎◌, ◌&&◌, ⊤, Bool, true, ℕ, List, [], ◌∷◌, Option, Result, Ok, Err, Vec, is_some, map}
 use Rattle.std.specs.Borrow.{Bor}
 use Rattle.std.specs.Bool.{beq}
+use Rattle.std.specs.Global.{Global}
+use Rattle.std.specs.Option.{option_copied}
 use Rattle.clap.specs.Words.{Text}
 use Rattle.pam_conf.specs.declared.rule.Kind.{Kind}
-use Rattle.pam_paths.specs.Classes.{Member}
+use Rattle.pam_text.specs.Members.{Member}
 use Rattle.pam_report.specs.Inputs.{fits_check, fits_knowledge, has_named_tables}
 use Rattle.pam_report.specs.declared.inputs.CheckInputs.{CheckInputs}
 use Rattle.pam_report.specs.declared.inputs.KnowledgeInputs.{KnowledgeInputs}
@@ -19,7 +21,8 @@ use Rattle.pam_words.specs.declared.wanted.Login.{Login}
 use Rattle.pam_words.specs.declared.wanted.Task.TheVariants.{Check, Compare, Access}
 use Rattle.pam_words.specs.declared.wanted.CheckFiles.{CheckFiles}
 use Rattle.pam_cli.specs.Sources.{IsInSource, IsUnread}
-use Rattle.pam_cli.specs.Reading.{AreTables, AreKnownTables, HasKnowledge, HasModules, IsOfKnowledge, IsOfCheck, IsReading}
+use Rattle.pam_cli.specs.System.{Told}
+use Rattle.pam_cli.specs.Reading.{AreOthers, AreTables, AreKnownTables, IsFile, HasKnowledge, HasModules, IsOfKnowledge, IsOfCheck, IsReading}
 
 -- a name of the source of a side, or one of the folders of modules
 abbrev pub IsOfSide : ConfSource → CompareFiles → List ℕ → Type 0
@@ -39,35 +42,41 @@ KeepsKnown source old new = new ≡ old
 abbrev pub IsGiven : {A B : Type 0} → Option A → Option B → Type 0
 IsGiven given named = beq (is_some given) (is_some named) ≡ true
 
+-- that of the name
+abbrev pub IsRightFile : Told → Option (Bor Text) → Option (Vec ℕ Global) → Type 0
+IsRightFile told named given = IsGiven given named × IsFile told (option_copied named) given
+
 -- what is read for each `check` of this source and these files
-abbrev pub IsCheckReading : List (Text × Text) → ConfSource → CheckFiles → Result Inputs InputError → Type 0
-IsCheckReading candidates source named result =
-    (services : List Text) (fail_on : LevelName) → IsReading candidates (Check source services fail_on named) result
+abbrev pub IsCheckReading : Told → List (Text × Text) → ConfSource → CheckFiles → Result Inputs InputError → Type 0
+IsCheckReading told candidates source named result =
+    (services : List Text) (fail_on : LevelName) → IsReading told candidates (Check source services fail_on named) result
 
 -- what is read for each `compare` of these sources and these files
-abbrev pub IsCompareReading : ConfSource → ConfSource → CompareFiles → Result Inputs InputError → Type 0
-IsCompareReading old new named result =
-    (candidates : List (Text × Text)) (service : Option (Bor Text)) (kind : Option Kind) → IsReading candidates (Compare old new service kind named) result
+abbrev pub IsCompareReading : Told → ConfSource → ConfSource → CompareFiles → Result Inputs InputError → Type 0
+IsCompareReading told old new named result =
+    (candidates : List (Text × Text)) (service : Option (Bor Text)) (kind : Option Kind) → IsReading told candidates (Compare old new service kind named) result
 
--- what a check is given besides the configuration
-abbrev pub IsGivenReading : ConfSource → CheckFiles → Result CheckInputs InputError → Type 0
-IsGivenReading source named (Ok given) =
-    (fits_check named given ≡ true) × AreTables true true source named.tables given.tables × HasModules source named.modules.items given.there
-IsGivenReading source named (Err error) = IsUnread (λ name. IsInSource source name ⊎ IsOfCheck named name) error
+-- what a check is given besides the configuration, whose files from this position on only the second folder has
+abbrev pub IsGivenReading : Told → ℕ → ConfSource → CheckFiles → Result CheckInputs InputError → Type 0
+IsGivenReading told vendor_start source named (Ok given) =
+    (given.vendor_start ≡ vendor_start) × (fits_check named given ≡ true) × AreTables told true true source named.tables given.tables
+    × AreOthers told named given × HasModules source named.modules.items given.there
+IsGivenReading told vendor_start source named (Err error) = IsUnread (λ name. IsInSource source name ⊎ IsOfCheck named name) error
 
 -- what is known besides the configuration, for each task about paths
-abbrev pub IsKnownReading : ConfSource → KnowledgeSource → Result KnowledgeInputs InputError → Type 0
-IsKnownReading source named (Ok given) =
+abbrev pub IsKnownReading : Told → ConfSource → KnowledgeSource → Result KnowledgeInputs InputError → Type 0
+IsKnownReading told source named (Ok given) =
     (beq (is_some given.returns) (is_some named.returns) && has_named_tables named.tables given.tables ≡ true)
-    × AreKnownTables source named given.tables × HasModules source named.modules.items given.there
-IsKnownReading source named (Err error) = IsUnread (IsOfKnowledge source named) error
+    × AreKnownTables told source named given.tables × IsFile told (option_copied named.returns) given.returns
+    × HasModules source named.modules.items given.there
+IsKnownReading told source named (Err error) = IsUnread (IsOfKnowledge source named) error
 
 -- what is read for each `access` of these files
-abbrev pub IsAccessReading : Bor Text → Option (Bor Text) → Result Inputs InputError → Type 0
-IsAccessReading table groups result =
-    (candidates : List (Text × Text)) (login : Login) (arguments : List Text) → IsReading candidates (Access table groups login arguments) result
+abbrev pub IsAccessReading : Told → Bor Text → Option (Bor Text) → Result Inputs InputError → Type 0
+IsAccessReading told table groups result =
+    (candidates : List (Text × Text)) (login : Login) (arguments : List Text) → IsReading told candidates (Access table groups login arguments) result
 
 -- what is read for each task about this source with what is known of answers
-abbrev pub IsKnowledgeReading : List (Text × Text) → ConfSource → KnowledgeSource → Result Inputs InputError → Type 0
-IsKnowledgeReading candidates source named (Ok given) = (fits_knowledge named given ≡ true) × HasKnowledge candidates source named given
-IsKnowledgeReading candidates source named (Err error) = IsUnread (IsOfKnowledge source named) error
+abbrev pub IsKnowledgeReading : Told → List (Text × Text) → ConfSource → KnowledgeSource → Result Inputs InputError → Type 0
+IsKnowledgeReading told candidates source named (Ok given) = (fits_knowledge named given ≡ true) × HasKnowledge told candidates source named given
+IsKnowledgeReading told candidates source named (Err error) = IsUnread (IsOfKnowledge source named) error

@@ -1,23 +1,21 @@
 //! Reads the files of a source, each with its path.
 
-ghost use Rattle.std.specs.Prelude.{◌≡◌, codes, false, IfErr, IfOk, IsOkUnless, MatchResult, OnOk, map, string_bytes};
-ghost use Rattle.std.specs.Path.{path_join};
-ghost use Rattle.pam_cli.specs.Sources.{IsInSource, IsOfCandidates, IsOfFolder, IsOfRoot, IsOneFile, IsOver, IsRead, IsRootFile, IsUnread, is_given};
-ghost use Rattle.pam_cli.specs.inner.Sources.{AddsCandidate, AddsEntry, AddsFile, AddsFiles, IsStart};
+ghost use Rattle.std.specs.Prelude.{◌≡◌, ◌⊎◌, codes, false, IfErr, IfOk, IsOkUnless, MatchResult, OnOk, map, option_map, string_bytes};
+ghost use Rattle.pam_cli.specs.Sources.{IsAlone, IsHidden, IsInSource, IsNamedFile, IsOfCandidates, IsOfFolder, IsOfRoot, IsOfSystem};
+ghost use Rattle.pam_cli.specs.Sources.{IsOneFile, IsOver, IsRead, IsRootFile, IsSingle, IsThen, IsUnread, is_given};
+ghost use Rattle.pam_cli.specs.System.{below, place_view, shown};
+ghost use Rattle.pam_cli.specs.inner.Sources.{AddsCandidate, AddsEntry, AddsFile, IsStart};
 ghost use Rattle.pam_words.specs.Wanted.{candidate_view};
 
-use crate::reading::files::{
-    bytes_if_there, entry_bytes, find_folder, found_at, named_file, names_in, unread,
-};
-use crate::reading::inside::Folder;
+use crate::reading::files::{entries, look, named_file, unread, unread_at};
+use crate::system::{Found, Held, Place, System};
 use pam_conf::{Files, Form};
 use pam_report::InputError;
 use pam_text::Texts;
 use pam_words::{Candidate, ConfSource};
 use std::alloc::{AllocError, Global};
+use std::io;
 use std::io::ErrorKind;
-use std::path::Path;
-use std::{fs, io};
 
 /// The folder of the files of a system.
 const FOLDER: &str = "etc/pam.d";
@@ -33,6 +31,32 @@ const FILE: &str = "etc/pam.conf";
 pub(super) struct SourceFiles {
     pub(super) files: Files,
     pub(super) paths: Texts,
+}
+
+/// The files of a source with their paths, and which of them only the second folder has.
+#[derive(Drop)]
+pub(super) struct Configuration {
+    pub(super) files: Files,
+    pub(super) paths: Texts,
+    /// The position from which on the files are those that only the second folder has; without a second folder the number of files.
+    pub(super) vendor_start: usize,
+}
+
+impl Configuration {
+    /// Returns the files of a source without a second folder.
+    fn alone(found: SourceFiles) -> Configuration
+        ensures files { result.files ≡ found.files }
+        ensures paths { result.paths ≡ found.paths }
+        ensures start { IsAlone found.files result.vendor_start }
+    {
+        let SourceFiles { files, paths } = found;
+        let vendor_start = files.len();
+        Configuration {
+            files,
+            paths,
+            vendor_start,
+        }
+    }
 }
 
 impl SourceFiles {
@@ -66,122 +90,166 @@ impl SourceFiles {
     }
 }
 
-/// Reads an entry of a folder, and adds it if it is a regular file and no file of its name is there.
-fn put_entry<R: std::rt::Files>(
-    rt: &R,
+/// Whether the folder above another one, if there is one, has an entry of this name, whatever it is.
+fn is_hidden<S: System>(
+    system: &S,
     alloc: Global,
-    folder: Folder<'_>,
+    above: Option<Place<'_>>,
+    name: &str,
+) -> Result<bool, InputError>
+    ensures ok { IfOk result (IsHidden (S.told system.now) (option_map place_view above.entry) name.now) }
+    ensures error { IfErr result (IsUnread (λ n. n ≡ name.now)) }
+{
+    let Some(above) = above else {
+        return Ok(false);
+    };
+    let path = above.entry_path(alloc, name)?;
+    match system.look(alloc, above.with_path(path.as_str())) {
+        Ok(Found::Nothing) => Ok(false),
+        Ok(Found::Folder | Found::File | Found::Other) => Ok(true),
+        Err(error) => Err(unread(alloc, name, &error)),
+    }
+}
+
+/// Reads an entry of a folder, and adds it if it is a regular file, no file of its name is there, and the folder above does not hide
+/// it.
+fn put_entry<S: System>(
+    system: &S,
+    alloc: Global,
+    above: Option<Place<'_>>,
+    folder: Place<'_>,
     name: String,
     found: &mut SourceFiles,
 ) -> Result<(), InputError>
-    ensures ok { OnOk result (AddsEntry folder.entry.shown.now (string_bytes name) found.old found.new) }
+    ensures ok { OnOk result (AddsEntry (S.told system.now) (option_map place_view above.entry) (place_view folder.entry) (string_bytes name)
+        found.old found.new) }
     ensures error { IfErr result (IsUnread (λ n. n ≡ string_bytes name)) }
 {
     if found.has(name.as_bytes()) {
         return Ok(());
     }
-    let path = Path::new(folder.shown).join(alloc, name.as_str())?;
-    match entry_bytes(rt, alloc, folder, name.as_str(), path.as_path()) {
-        Ok(None) => Ok(()),
-        Ok(Some(bytes)) => found.put(name.into_bytes(), path.as_str(), bytes),
+    if is_hidden(system, alloc, above, name.as_str())? {
+        return Ok(());
+    }
+    let path = folder.entry_path(alloc, name.as_str())?;
+    let place = folder.with_path(path.as_str());
+    match system.held(alloc, place) {
+        Ok(Held::Nothing | Held::Other) => Ok(()),
+        Ok(Held::Bytes(bytes)) => {
+            let path = place.shown(alloc)?;
+            found.put(name.into_bytes(), path.as_str(), bytes)
+        }
         Err(error) => Err(unread(alloc, name.as_str(), &error)),
     }
 }
 
 /// Adds the regular files of a folder, after links are followed, in ascending byte order of their names, except those whose names are
-/// there already.
-fn add_folder<R: std::rt::Files + AllocGlobal + Clone + Drop>(
-    rt: &R,
+/// there already, or are names of entries of the folder above.
+fn add_folder<S: System>(
+    system: &S,
     alloc: Global,
-    folder: Folder<'_>,
+    above: Option<Place<'_>>,
+    folder: Place<'_>,
     found: &mut SourceFiles,
 ) -> Result<(), InputError>
-    ensures { OnOk result (AddsFiles folder.entry.shown.now found.old found.new) }
+    ensures { OnOk result (IsThen (S.told system.now) (option_map place_view above.entry) (place_view folder.entry) found.old.files found.old.paths
+        found.new.files found.new.paths) }
 {
-    let names = names_in(rt, alloc, folder)?;
+    let names = entries(system, alloc, folder)?;
     for name in names {
-        put_entry(rt, alloc, folder, name, found)?;
+        put_entry(system, alloc, above, folder, name, found)?;
     }
     Ok(())
 }
 
 /// Reads the file of a candidate, and adds it if no file of its name is there.
-fn put_candidate<R: std::rt::Files>(
-    rt: &R,
+fn put_candidate<S: System>(
+    system: &S,
     alloc: Global,
     candidate: Candidate<'_>,
     found: &mut SourceFiles,
 ) -> Result<(), InputError>
-    ensures { OnOk result (AddsCandidate (candidate_view candidate.entry) found.old found.new) }
+    ensures { OnOk result (AddsCandidate (S.told system.now) (candidate_view candidate.entry) found.old found.new) }
 {
-    if found.has(candidate.name.as_bytes()) {
+    if found.has(candidate.name) {
         return Ok(());
     }
-    let bytes = named_file(rt, alloc, candidate.file)?;
-    let name = Vec::from_slice(alloc, candidate.name.as_bytes())?;
+    let bytes = named_file(system, alloc, candidate.file)?;
+    let name = Vec::from_slice(alloc, candidate.name)?;
     found.put(name, candidate.file, bytes)
 }
 
-/// Reads the files of the candidates for a folder, the first of each name.
-fn candidate_files<R: std::rt::Files>(
-    rt: &R,
+/// Reads the files of the candidates for a folder that is shown by this path, the first of each name.
+fn candidate_files<S: System>(
+    system: &S,
     alloc: Global,
     folder: &str,
     candidates: &[Candidate<'_>],
 ) -> Result<SourceFiles, InputError>
-    ensures { IfOk result (λ found. IsOfCandidates (map candidate_view candidates.now) folder.now found.files found.paths) }
+    ensures { IfOk result (λ found. IsOfCandidates (S.told system.now) (map candidate_view candidates.now) folder.now found.files found.paths) }
 {
     let mut found = SourceFiles::new(alloc, Form::Dir, folder)?;
     for candidate in candidates {
-        put_candidate(rt, alloc, *candidate, &mut found)?;
+        put_candidate(system, alloc, *candidate, &mut found)?;
     }
     Ok(found)
 }
 
 /// Reads the files of the candidates, and those of a folder whose names no candidate has.
-fn folder_files<R: std::rt::Files + AllocGlobal + Clone + Drop>(
-    rt: &R,
+fn folder_files<S: System>(
+    system: &S,
     alloc: Global,
-    folder: Folder<'_>,
+    folder: Place<'_>,
     candidates: &[Candidate<'_>],
 ) -> Result<SourceFiles, InputError>
-    ensures { IfOk result (λ found. IsOfFolder (map candidate_view candidates.now) folder.entry.shown.now found.files found.paths) }
+    ensures { IfOk result (λ found. IsOfFolder (S.told system.now) (map candidate_view candidates.now) (place_view folder.entry) found.files found.paths) }
 {
-    let mut found = candidate_files(rt, alloc, folder.shown, candidates)?;
-    add_folder(rt, alloc, folder, &mut found)?;
+    let path = folder.shown(alloc)?;
+    let mut found = candidate_files(system, alloc, path.as_str(), candidates)?;
+    add_folder(system, alloc, None, folder, &mut found)?;
     Ok(found)
 }
 
-/// Reads the files of the candidates and of a folder, and those of another one whose names none of these has.
-fn over_files<R: std::rt::Files + AllocGlobal + Clone + Drop>(
-    rt: &R,
+/// Reads the files of the candidates and of a folder beside which there is no other one.
+fn alone_in<S: System>(
+    system: &S,
     alloc: Global,
-    folder: Folder<'_>,
-    vendor: Folder<'_>,
+    folder: Place<'_>,
     candidates: &[Candidate<'_>],
-) -> Result<SourceFiles, InputError>
-    ensures { IfOk result (λ found. IsOver (map candidate_view candidates.now) folder.entry.shown.now vendor.entry.shown.now found.files found.paths) }
+) -> Result<Configuration, InputError>
+    ensures { IfOk result (λ found. IsOfFolder (S.told system.now) (map candidate_view candidates.now) (place_view folder.entry) found.files found.paths
+        × IsAlone found.files found.vendor_start) }
 {
-    let mut found = folder_files(rt, alloc, folder, candidates)?;
-    add_folder(rt, alloc, vendor, &mut found)?;
-    Ok(found)
+    let found = folder_files(system, alloc, folder, candidates)?;
+    Ok(Configuration::alone(found))
 }
 
-/// Reads one file in place of `pam.conf`.
-fn conf_file<R: std::rt::Files>(
-    rt: &R,
+/// Reads the files of the candidates and of a folder, and those of another one whose names none of these and no entry of the folder
+/// has.
+fn over_files<S: System>(
+    system: &S,
     alloc: Global,
-    name: &str,
-) -> Result<SourceFiles, InputError>
-    ensures { MatchResult result (λ found. IsOneFile name.now found.files found.paths) (IsUnread (λ n. n ≡ name.now)) }
+    folder: Place<'_>,
+    vendor: Place<'_>,
+    candidates: &[Candidate<'_>],
+) -> Result<Configuration, InputError>
+    ensures { IfOk result (λ found. IsOver (S.told system.now) (map candidate_view candidates.now) (place_view folder.entry) (place_view vendor.entry)
+        found.files found.paths found.vendor_start) }
 {
-    let bytes = named_file(rt, alloc, name)?;
-    one_file(alloc, name, bytes)
+    let mut found = folder_files(system, alloc, folder, candidates)?;
+    let vendor_start = found.files.len();
+    add_folder(system, alloc, Some(folder), vendor, &mut found)?;
+    let SourceFiles { files, paths } = found;
+    Ok(Configuration {
+        files,
+        paths,
+        vendor_start,
+    })
 }
 
 /// Returns the one file in place of `pam.conf`.
 fn one_file(alloc: Global, path: &str, bytes: Vec<u8>) -> Result<SourceFiles, InputError>
-    ensures ok { IfOk result (λ found. IsOneFile path.now found.files found.paths) }
+    ensures ok { IfOk result (λ found. IsOneFile path.now bytes.items found.files found.paths) }
     ensures error { IsOkUnless result InputError.Memory }
 {
     let mut found = SourceFiles::new(alloc, Form::Single, path)?;
@@ -190,91 +258,111 @@ fn one_file(alloc: Global, path: &str, bytes: Vec<u8>) -> Result<SourceFiles, In
     Ok(found)
 }
 
-/// Reads the files of the candidates and of the folder of a system, and those of its second one, if that is there, whose names
-/// none of these has.
-fn system_files<R: std::rt::Files + AllocGlobal + Clone + Drop>(
-    rt: &R,
-    alloc: Global,
-    root: Folder<'_>,
-    folder: Folder<'_>,
-    candidates: &[Candidate<'_>],
-) -> Result<SourceFiles, InputError>
-    requires { folder.shown.now ≡ path_join root.shown.now (codes "etc/pam.d") }
-    ensures { IfOk result (λ found. IsOfRoot (map candidate_view candidates.now) root.entry.shown.now found.files found.paths) }
-{
-    let shown = Path::new(root.shown).join(alloc, VENDOR)?;
-    match found_at(rt, alloc, root, VENDOR) {
-        Ok(Some(found)) => {
-            let vendor = root.inner(shown.as_str(), &found.reached);
-            over_files(rt, alloc, folder, vendor, candidates)
-        }
-        Ok(None) => folder_files(rt, alloc, folder, candidates),
-        Err(error) => Err(unread(alloc, shown.as_str(), &error)),
-    }
-}
-
 /// Reads the one file of a system, if it is there.
-fn root_file<R: std::rt::Files>(
-    rt: &R,
+fn root_file<S: System>(
+    system: &S,
     alloc: Global,
-    root: Folder<'_>,
-    path: &str,
+    place: Place<'_>,
 ) -> Result<SourceFiles, InputError>
-    ensures { IfOk result (λ found. IsRootFile path.now found.files found.paths) }
+    ensures { IfOk result (λ found. IsRootFile (S.told system.now) (place_view place.entry) found.files found.paths) }
 {
-    match bytes_if_there(rt, alloc, root, FILE) {
-        Ok(Some(bytes)) => one_file(alloc, path, bytes),
-        Ok(None) => Ok(SourceFiles::new(alloc, Form::Single, path)?),
-        Err(error) => Err(unread(alloc, path, &error)),
+    let path = place.shown(alloc)?;
+    match system.held(alloc, place) {
+        Ok(Held::Bytes(bytes)) => one_file(alloc, path.as_str(), bytes),
+        Ok(Held::Nothing) => Ok(SourceFiles::new(alloc, Form::Single, path.as_str())?),
+        Ok(Held::Other) => Err(unread(
+            alloc,
+            path.as_str(),
+            &io::Error::from(ErrorKind::InvalidInput),
+        )),
+        Err(error) => Err(unread(alloc, path.as_str(), &error)),
     }
 }
 
-/// Reads the configuration of the system whose root is this folder. Candidates stand for files of a folder, so it is an error if
-/// there are any and the system has none.
-fn root_files<R: std::rt::Files + AllocGlobal + Clone + Drop>(
-    rt: &R,
+/// Reads the one file of a system without folders. Candidates stand for files of a folder, so it is an error if there are any.
+fn single_file<S: System>(
+    system: &S,
     alloc: Global,
     root: &str,
     candidates: &[Candidate<'_>],
 ) -> Result<SourceFiles, InputError>
-    ensures { IfOk result (λ found. IsOfRoot (map candidate_view candidates.now) root.now found.files found.paths) }
+    ensures { IfOk result (λ found. IsSingle (S.told system.now) (map candidate_view candidates.now) root.now found.files found.paths) }
 {
-    if let Err(error) = fs::read_dir(rt, root) {
-        return Err(unread(alloc, root, &error));
+    if candidates.is_empty() {
+        return root_file(system, alloc, Place::Below { root, path: FILE });
     }
-    let root = Folder::of_root(root);
-    let shown = Path::new(root.shown).join(alloc, FOLDER)?;
-    match find_folder(rt, alloc, root, FOLDER) {
-        Ok(Some(reached)) => {
-            let folder = root.inner(shown.as_str(), &reached);
-            system_files(rt, alloc, root, folder, candidates)
-        }
-        Ok(None) if candidates.is_empty() => {
-            let file = Path::new(root.shown).join(alloc, FILE)?;
-            root_file(rt, alloc, root, file.as_str())
-        }
-        Ok(None) => Err(unread(alloc, shown.as_str(), &io::Error::from(ErrorKind::NotFound))),
-        Err(error) => Err(unread(alloc, shown.as_str(), &error)),
+    let folder = Place::Below { root, path: FOLDER };
+    Err(unread_at(alloc, folder, &io::Error::from(ErrorKind::NotFound)))
+}
+
+/// Reads the configuration of a system, by what is at its two folders: that of these, or of the one that is there, else its one file.
+fn system_files<S: System>(
+    system: &S,
+    alloc: Global,
+    root: &str,
+    there: (Found, Found),
+    candidates: &[Candidate<'_>],
+) -> Result<Configuration, InputError>
+    ensures { IfOk result (λ found. IsOfSystem (S.told system.now) (map candidate_view candidates.now) root.now there.0 there.1
+        found.files found.paths found.vendor_start) }
+{
+    let folder = Place::Below { root, path: FOLDER };
+    let vendor = Place::Below { root, path: VENDOR };
+    match there {
+        (Found::Folder, Found::Nothing) => alone_in(system, alloc, folder, candidates),
+        (Found::Folder, _) => over_files(system, alloc, folder, vendor, candidates),
+        (_, Found::Folder) => alone_in(system, alloc, vendor, candidates),
+        _ => Ok(Configuration::alone(single_file(system, alloc, root, candidates)?)),
     }
 }
 
+/// Reads the configuration of the system whose root is this folder.
+fn root_files<S: System>(
+    system: &S,
+    alloc: Global,
+    root: &str,
+    candidates: &[Candidate<'_>],
+) -> Result<Configuration, InputError>
+    ensures { IfOk result (λ found. IsOfRoot (S.told system.now) (map candidate_view candidates.now) root.now
+        found.files found.paths found.vendor_start) }
+{
+    entries(system, alloc, Place::Named(root))?;
+    let first = look(system, alloc, Place::Below { root, path: FOLDER })?;
+    let second = look(system, alloc, Place::Below { root, path: VENDOR })?;
+    system_files(system, alloc, root, (first, second), candidates)
+}
+
+/// Reads one file in place of `pam.conf`.
+fn conf_file<S: System>(system: &S, alloc: Global, name: &str) -> Result<SourceFiles, InputError>
+    ensures ok { IfOk result (λ found. IsNamedFile (S.told system.now) name.now found.files found.paths) }
+    ensures error { IfErr result (IsUnread (λ n. n ≡ name.now)) }
+{
+    let bytes = named_file(system, alloc, name)?;
+    one_file(alloc, name, bytes)
+}
+
 /// Reads the configuration of a source with its candidates. Beside `--conf` there are none.
-pub(super) fn source_files<R: std::rt::Files + AllocGlobal + Clone + Drop>(
-    rt: &R,
+pub(super) fn source_files<S: System>(
+    system: &S,
     alloc: Global,
     source: ConfSource<'_>,
     candidates: &[Candidate<'_>],
-) -> Result<SourceFiles, InputError>
-    ensures { MatchResult result (λ found. IsRead (map candidate_view candidates.now) source.entry found.files found.paths)
-        (IsUnread (IsInSource source.entry)) }
+) -> Result<Configuration, InputError>
+    ensures { MatchResult result (λ found. IsRead (S.told system.now) (map candidate_view candidates.now) source.entry
+        found.files found.paths found.vendor_start) (IsUnread (IsInSource source.entry)) }
 {
     match source {
-        ConfSource::Dir(folder) => folder_files(rt, alloc, Folder::of_system(folder), candidates),
+        ConfSource::Dir(folder) => alone_in(system, alloc, Place::Named(folder), candidates),
         ConfSource::Over { folder, vendor } => {
-            let (folder, vendor) = (Folder::of_system(folder), Folder::of_system(vendor));
-            over_files(rt, alloc, folder, vendor, candidates)
+            over_files(
+                system,
+                alloc,
+                Place::Named(folder),
+                Place::Named(vendor),
+                candidates,
+            )
         }
-        ConfSource::Conf(name) => conf_file(rt, alloc, name),
-        ConfSource::Root(root) => root_files(rt, alloc, root, candidates),
+        ConfSource::Conf(name) => Ok(Configuration::alone(conf_file(system, alloc, name)?)),
+        ConfSource::Root(root) => root_files(system, alloc, root, candidates),
     }
 }

@@ -1,16 +1,18 @@
 //! Reads the tables that modules of a host read: pam_access(8), pam_time(8).
 
-ghost use Rattle.std.specs.Prelude.{◌≡◌, ◌⊎◌, IfErr, IfOk, IfSome, MatchResult};
+ghost use Rattle.std.specs.Prelude.{◌≡◌, ◌⊎◌, IfErr, IfOk, MatchResult};
 ghost use Rattle.std.specs.Option.{option_copied};
-ghost use Rattle.pam_cli.specs.Reading.{AreTables, IsNamed, IsOfTables, IsTable};
+ghost use Rattle.pam_cli.specs.Reading.{AreTables, IsNamed, IsNamedTable, IsOfTables, IsOwnTable, IsTable, IsTableAt};
 ghost use Rattle.pam_cli.specs.Sources.{IsInSource, IsUnread};
+ghost use Rattle.pam_cli.specs.System.{place_view};
 
-use crate::reading::files::{bytes_if_there, named_file, unread};
-use crate::reading::inside::Folder;
+use crate::reading::files::{named_file, unread};
+use crate::system::{Held, Place, System};
 use pam_report::{InputError, TableFile, TableFiles};
 use pam_words::{ConfSource, TableNames};
 use std::alloc::Global;
-use std::path::Path;
+use std::io;
+use std::io::ErrorKind;
 
 /// The group file of a system.
 const GROUPS: &str = "etc/group";
@@ -31,75 +33,91 @@ pub(super) struct LookedUp {
 }
 
 /// Reads a table that is named.
-fn named_table<R: std::rt::Files>(
-    rt: &R,
-    alloc: Global,
-    name: &str,
-) -> Result<TableFile, InputError>
-    ensures { MatchResult result (λ table. table.path.items ≡ name.now) (IsUnread (λ n. n ≡ name.now)) }
+fn named_table<S: System>(system: &S, alloc: Global, name: &str) -> Result<TableFile, InputError>
+    ensures { MatchResult result (IsNamedTable (S.told system.now) name.now) (IsUnread (λ n. n ≡ name.now)) }
 {
-    let bytes = named_file(rt, alloc, name)?;
+    let bytes = named_file(system, alloc, name)?;
     let path = Vec::from_slice(alloc, name.as_bytes())?;
     Ok(TableFile { path, bytes })
 }
 
-/// Reads a table of the system with this root, if it is there. `path` is the path that is shown.
-fn table_if_there<R: std::rt::Files>(
-    rt: &R,
+/// Reads a table of a system, if it is there.
+fn table_at<S: System>(
+    system: &S,
     alloc: Global,
-    root: Folder<'_>,
-    own: &str,
-    path: &str,
+    place: Place<'_>,
 ) -> Result<Option<TableFile>, InputError>
-    ensures { IfOk result (λ found. IfSome found (λ table. table.path.items ≡ path.now)) }
+    ensures { IfOk result (IsTableAt (S.told system.now) (place_view place.entry)) }
 {
-    match bytes_if_there(rt, alloc, root, own) {
-        Ok(Some(bytes)) => {
-            let path = Vec::from_slice(alloc, path.as_bytes())?;
+    let path = place.shown(alloc)?;
+    match system.held(alloc, place) {
+        Ok(Held::Bytes(bytes)) => {
+            let path = Vec::from_slice(alloc, path.as_str().as_bytes())?;
             Ok(Some(TableFile { path, bytes }))
         }
-        Ok(None) => Ok(None),
-        Err(error) => Err(unread(alloc, path, &error)),
+        Ok(Held::Nothing) => Ok(None),
+        Ok(Held::Other) => Err(unread(
+            alloc,
+            path.as_str(),
+            &io::Error::from(ErrorKind::InvalidInput),
+        )),
+        Err(error) => Err(unread(alloc, path.as_str(), &error)),
+    }
+}
+
+/// Reads the table at this path below the root, if the source is a system, the table is to be read, and it is there.
+fn own_table<S: System>(
+    system: &S,
+    alloc: Global,
+    source: ConfSource<'_>,
+    path: &str,
+    is_read: bool,
+) -> Result<Option<TableFile>, InputError>
+    ensures ok { IfOk result (IsOwnTable (S.told system.now) is_read source.entry path.now) }
+    ensures error { IfErr result (IsUnread (IsInSource source.entry)) }
+{
+    if !is_read {
+        return Ok(None);
+    }
+    match source {
+        ConfSource::Root(root) => table_at(system, alloc, Place::Below { root, path }),
+        ConfSource::Dir(_) | ConfSource::Over { .. } | ConfSource::Conf(_) => Ok(None),
     }
 }
 
 /// Reads the table that is named, or else that of the root, if it is to be read and is there.
-fn table_of<R: std::rt::Files>(
-    rt: &R,
+fn table_of<S: System>(
+    system: &S,
     alloc: Global,
     source: ConfSource<'_>,
     named: Option<&str>,
     own: &str,
     is_read: bool,
 ) -> Result<Option<TableFile>, InputError>
-    ensures ok { IfOk result (IsTable is_read source.entry own.now (option_copied named.entry)) }
+    ensures ok { IfOk result (IsTable (S.told system.now) is_read source.entry own.now (option_copied named.entry)) }
     ensures error { IfErr result (IsUnread (λ n. IsInSource source.entry n ⊎ IsNamed (option_copied named.entry) n)) }
 {
-    match (named, source) {
-        (Some(name), _) => Ok(Some(named_table(rt, alloc, name)?)),
-        (None, ConfSource::Root(root)) if is_read => {
-            let path = Path::new(root).join(alloc, own)?;
-            table_if_there(rt, alloc, Folder::of_root(root), own, path.as_str())
-        }
-        (None, _) => Ok(None),
+    match named {
+        Some(name) => Ok(Some(named_table(system, alloc, name)?)),
+        None => own_table(system, alloc, source, own, is_read),
     }
 }
 
 /// Reads the group file, the access table and the time table that are named, or else those of the root that are there: the first two
 /// if a login is looked up, and the time table if its moment is looked up too.
-pub(super) fn table_files<R: std::rt::Files>(
-    rt: &R,
+pub(super) fn table_files<S: System>(
+    system: &S,
     alloc: Global,
     source: ConfSource<'_>,
     named: TableNames<'_>,
     looked_up: LookedUp,
 ) -> Result<TableFiles, InputError>
-    ensures ok { IfOk result (AreTables looked_up.login looked_up.moment source.entry named.entry) }
+    ensures ok { IfOk result (AreTables (S.told system.now) looked_up.login looked_up.moment source.entry named.entry) }
     ensures error { IfErr result (IsUnread (λ n. IsInSource source.entry n ⊎ IsOfTables named.entry n)) }
 {
-    let groups = table_of(rt, alloc, source, named.groups, GROUPS, looked_up.login)?;
-    let access = table_of(rt, alloc, source, named.access, ACCESS, looked_up.login)?;
-    let time = table_of(rt, alloc, source, named.time, TIME, looked_up.moment)?;
+    let groups = table_of(system, alloc, source, named.groups, GROUPS, looked_up.login)?;
+    let access = table_of(system, alloc, source, named.access, ACCESS, looked_up.login)?;
+    let time = table_of(system, alloc, source, named.time, TIME, looked_up.moment)?;
     Ok(TableFiles {
         groups,
         access,

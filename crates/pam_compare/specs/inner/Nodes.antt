@@ -1,6 +1,6 @@
 -- For private contracts and proofs alone: the nodes of a comparison, which are situations that two stacks can be in after the same
 -- answers.
-use Rattle.std.specs.Prelude.{◌≡◌, ◌⊎◌, ◌<◌, ◌++◌, ◌∷◌, [], ℕ, List, Option, None, Some, IsSome, length, slice_get}
+use Rattle.std.specs.Prelude.{◌≡◌, ◌⊎◌, ◌<◌, ◌≤◌, ◌++◌, ◌∷◌, [], ℕ, List, Option, None, Some, length, slice_get}
 use Rattle.pam_dispatch.specs.declared.flat_item.FlatItem.{FlatItem}
 use Rattle.pam_dispatch.specs.declared.place.Place.{Place}
 use Rattle.pam_dispatch.specs.Flat.{IsPlaceOf, rest_of, runs_of}
@@ -21,8 +21,9 @@ use Rattle.pam_compare.specs.Held.{Holds}
 use Rattle.pam_compare.specs.inner.HeldLists.{AreLinks, IsListed}
 use Rattle.pam_compare.specs.Names.{by_name}
 use Rattle.pam_compare.specs.inner.Naming.{IsPossible}
-use Rattle.pam_compare.specs.Walks.{turn_name, old_after, new_after}
-use Rattle.pam_compare.specs.inner.Turn.{IsTurn}
+use Rattle.pam_compare.specs.inner.Trails.{IsTrail}
+use Rattle.pam_compare.specs.Questions.{EndsAfter}
+use Rattle.pam_compare.specs.Walks.{Order, new_after, old_after, turn_name, turn_of}
 
 -- place k of a table is a place of this program, and its key is at the same index
 pub record IsStored (program : List FlatItem) (keys : List KeyValue) (k : ℕ) (p : Place) : Type 0 where
@@ -124,39 +125,64 @@ pub record IsMet (old new : List FlatItem) (nodes : Nodes) (a : Assignment) (lef
   pub right_is : rest_of new node.new ≡ right
   pub holds : Holds a node.held
 
--- if there is a change, it has been found
-abbrev pub IsNoted : Found → Option Change → Type 0
-IsNoted found None = Unit {0}
-IsNoted found (Some Admits) = IsSome found.admits
-IsNoted found (Some Refuses) = IsSome found.refuses
-IsNoted found (Some Tells) = IsSome found.tells
+-- the node that was found for a change
+abbrev pub found_at : Found → Change → Option ℕ
+found_at found Admits = found.admits
+found_at found Refuses = found.refuses
+found_at found Tells = found.tells
 
--- if the decisions of these runs make a change, it has been found
-abbrev pub IsDecided : Found → List ℕ → Assignment → Runs → Runs → Type 0
-IsDecided found names a left right = IsNoted found (change_of (decision_in left a) (decision_in right (by_name names a)))
+-- all nodes that were found are before this one
+unfoldable pub AreEarlier : Found → ℕ → Type 0
+AreEarlier found index = (change : Change) (k : ℕ) → found_at found change ≡ Some k → k < index
+
+-- what was found stays
+unfoldable pub KeepsFound : Found → Found → Type 0
+KeepsFound before after = (change : Change) (k : ℕ) → found_at before change ≡ Some k → found_at after change ≡ Some k
+
+-- if there is a change, it has been found at this node or before it
+abbrev pub IsNoted : Found → ℕ → Option Change → Type 0
+IsNoted found index None = Unit {0}
+IsNoted found index (Some change) = (k : ℕ) × (found_at found change ≡ Some k) × (k ≤ index)
+
+-- if the decisions of these runs make a change, it has been found at this node or before it
+abbrev pub IsDecided : Found → ℕ → List ℕ → Assignment → Runs → Runs → Type 0
+IsDecided found index names a left right = IsNoted found index (change_of (decision_in left a) (decision_in right (by_name names a)))
 
 -- after the next answer the runs are in one of the situations
-abbrev pub IsFollowed : List FlatItem → List FlatItem → List ℕ → Nodes → Assignment → Runs → Runs → Type 0
-IsFollowed old new names nodes a left right =
-    (turn : Turn) × IsTurn names (asked_module left) (asked_module right) turn
+abbrev pub IsFollowed : List FlatItem → List FlatItem → List ℕ → Order → Nodes → Assignment → Runs → Runs → Type 0
+IsFollowed old new names old_first nodes a left right =
+    (turn : Turn) × (turn_of names old_first (asked_module left) (asked_module right) ≡ Some turn)
     × IsMet old new nodes a (old_after turn left (a (turn_name names turn))) (new_after turn right (a (turn_name names turn)))
 
--- from this stop on, whatever the modules answer: the change has been found, or the next answer leads to one of the situations
-unfoldable pub IsDone : List FlatItem → List FlatItem → List ℕ → List (List ℕ) → Nodes → Found → Stop → Type 0
-IsDone old new names possible nodes found n =
-    (a : Assignment) → IsPossible possible a → Holds a n.held →
-    IsDecided found names a (rest_of old n.old) (rest_of new n.new)
-    ⊎ IsFollowed old new names nodes a (rest_of old n.old) (rest_of new n.new)
+-- node `met` is the first one, or its step is from a node up to this one
+abbrev pub IsNear : Nodes → ℕ → ℕ → Type 0
+IsNear nodes index met = (met ≡ 0) ⊎ ((way : Way) × (slice_get nodes.ways.items met ≡ Some way) × (way.parent ≤ index))
 
-pub record IsVisited (old new : List FlatItem) (names : List ℕ) (possible : List (List ℕ)) (nodes : Nodes) (found : Found) (s : Situation) : Type 0 where
+-- from this stop of a node on, whatever the modules answer: the change has been found, or the next answer leads to one of the situations
+unfoldable pub IsDone : List FlatItem → List FlatItem → List ℕ → Order → List (List ℕ) → Nodes → Found → ℕ → Stop → Type 0
+IsDone old new names old_first possible nodes found index n =
+    (a : Assignment) → IsPossible possible a → Holds a n.held →
+    IsDecided found index names a (rest_of old n.old) (rest_of new n.new)
+    ⊎ ((f : IsFollowed old new names old_first nodes a (rest_of old n.old) (rest_of new n.new)) × IsNear nodes index f.2.index)
+
+pub record IsVisited (old new : List FlatItem) (names : List ℕ) (old_first : Order) (possible : List (List ℕ)) (nodes : Nodes) (found : Found)
+    (index : ℕ) (s : Situation) : Type 0 where
   pub node : Stop
   pub is_at : IsAt nodes s node
-  pub done : IsDone old new names possible nodes found node
+  pub done : IsDone old new names old_first possible nodes found index node
 
--- both stacks begin in one of the situations
+-- both stacks begin at the first node
 abbrev pub IsBegun : List FlatItem → List FlatItem → Nodes → Type 0
-IsBegun old new nodes = (a : Assignment) → ((name : ℕ) → a name < 31) → IsMet old new nodes a (runs_of old) (runs_of new)
+IsBegun old new nodes = (a : Assignment) → ((name : ℕ) → a name < 31) → (m : IsMet old new nodes a (runs_of old) (runs_of new)) × (m.index ≡ 0)
 
--- whatever the modules answer, the change that the stacks make has been found
-unfoldable pub IsSearched : List FlatItem → List FlatItem → List ℕ → List (List ℕ) → Found → Type 0
-IsSearched old new names possible found = (a : Assignment) → IsPossible possible a → IsDecided found names a (runs_of old) (runs_of new)
+-- if there is a change, it is found within this number of steps
+abbrev pub IsFoundWithin : Found → List Way → ℕ → Option Change → Type 0
+IsFoundWithin found ways n None = Unit {0}
+IsFoundWithin found ways n (Some change) =
+    (k : ℕ) × (found_at found change ≡ Some k) × ((trail : List Way) → IsTrail ways k trail → length trail ≤ n)
+
+-- whatever the modules answer, the change that the stacks make has been found, after as few steps as these answers take
+unfoldable pub IsSearched : List FlatItem → List FlatItem → List ℕ → Order → List (List ℕ) → List Way → Found → Type 0
+IsSearched old new names old_first possible ways found =
+    (a : Assignment) (n : ℕ) → IsPossible possible a → EndsAfter names old_first a (by_name names a) n (runs_of old) (runs_of new) →
+    IsFoundWithin found ways n (change_of (decision_in (runs_of old) a) (decision_in (runs_of new) (by_name names a)))

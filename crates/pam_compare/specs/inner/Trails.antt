@@ -7,6 +7,7 @@ use Rattle.pam_compare.specs.declared.held.HeldAnswer.{HeldAnswer}
 use Rattle.pam_compare.specs.declared.nodes.Way.{Way}
 use Rattle.pam_compare.specs.declared.turn.Turn.{Turn}
 use Rattle.pam_compare.specs.Names.{name_of}
+use Rattle.pam_compare.specs.Usual.{first_usual}
 use Rattle.pam_compare.specs.Walks.{turn_name}
 use Rattle.pam_compare.specs.inner.Turn.{AreAlike, IsTurn}
 
@@ -68,12 +69,13 @@ pub record IsHeldAfter (possible : List (List ℕ)) (names : List ℕ) (count mo
       ((k : ℕ) × (slice_get after k ≡ Some h)) ⊎ IsPast names count modules h.name old new
   pub adds : ((k : ℕ) × (slice_get after k ≡ Some answer)) ⊎ IsSettled possible names count modules answer.name answer.codes old new
 
--- a step at this turn: its answer is in its class, and all codes of the class are possible, are not ruled out by what is held, and are
+-- a step at this turn: its answer is the first usual one of its class, and all codes of the class are possible, are not ruled out by what is held, and are
 -- alike
 pub record IsStep (names : List ℕ) (possible : List (List ℕ)) (left right : Runs) (held : List HeldAnswer) (turn : Turn) (w : Way) : Type 0 where
   pub turn_is : IsTurn names (asked_module left) (asked_module right) turn
   pub name : w.name ≡ turn_name names turn
   pub member : IsTrue (is_in w.code w.class)
+  pub usual : first_usual w.class ≡ Some w.code
   pub low : (d : ℕ) → IsTrue (is_in d w.class) → d < 31
   pub within : (d : ℕ) → IsTrue (is_in d w.class) → IsTrue (is_in d (slice_index_or possible w.name all_codes))
   pub narrows : (i : ℕ) (h : HeldAnswer) → slice_get held i ≡ Some h → h.name ≡ w.name → (d : ℕ) → IsTrue (is_in d w.class) → IsTrue (is_in d h.codes)

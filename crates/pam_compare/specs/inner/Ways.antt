@@ -1,5 +1,5 @@
 -- For private contracts and proofs alone: each node of a comparison is reached by answers that agree.
-use Rattle.std.specs.Prelude.{◌≡◌, ◌⊎◌, ◌<◌, ◌≤◌, ◌+◌, ◌++◌, ◌∷◌, [], ℕ, IsTrue, List, Option, Some, length, map, slice_get, slice_index_or}
+use Rattle.std.specs.Prelude.{◌≡◌, ◌⊎◌, ◌<◌, ◌≤◌, ◌+◌, ◌++◌, ◌∷◌, [], ℕ, IsTrue, List, Option, None, Some, length, map, slice_get, slice_index_or}
 use Rattle.std.specs.List.{AllByRecursion}
 use Rattle.pam_codes.specs.Code.{all_codes}
 use Rattle.pam_codes.specs.Set.{is_in}
@@ -8,7 +8,6 @@ use Rattle.pam_dispatch.specs.Flat.{modules_of, rest_of, runs_of}
 use Rattle.pam_dispatch.specs.Runs.{Assignment, AsksRise, Runs, asked_module}
 use Rattle.pam_paths.specs.Listing.{Allowance}
 use Rattle.pam_compare.specs.declared.change.Change.{Change}
-use Rattle.pam_compare.specs.declared.change.Change.TheVariants.{Admits, Refuses, Tells}
 use Rattle.pam_compare.specs.declared.held.HeldAnswer.{HeldAnswer}
 use Rattle.pam_compare.specs.declared.naming.Naming.{Naming}
 use Rattle.pam_compare.specs.declared.nodes.Found.{Found}
@@ -22,9 +21,11 @@ use Rattle.pam_compare.specs.Names.{AreNames, by_name, name_of}
 use Rattle.pam_compare.specs.inner.Naming.{AreFound, AreLast, IsKnown, IsPossible}
 use Rattle.pam_compare.specs.Walks.{IsAfter}
 use Rattle.pam_compare.specs.inner.Held.{AreAhead}
-use Rattle.pam_compare.specs.inner.Nodes.{IsAt, Stop}
+use Rattle.pam_compare.specs.inner.Nodes.{IsAt, Stop, found_at}
 use Rattle.pam_compare.specs.inner.Turn.{first_of}
+use Rattle.pam_compare.specs.Questions.{EndsAfter}
 use Rattle.pam_compare.specs.Situations.{Comes}
+use Rattle.pam_compare.specs.Usual.{first_usual}
 use Rattle.pam_compare.specs.inner.Trails.{Follows, IsCovered, IsTrail, answers_on}
 
 -- the tables of a naming fit two programs
@@ -44,11 +45,12 @@ pub record IsNamingFor (old_allows new_allows : Allowance) (old new : List FlatI
   pub exact : (a : Assignment) → IsPossible naming.possible.items a →
       IsKnown old_allows new_allows (modules_of old) (modules_of new) naming.names.items a
 
--- the answer of a step is possible
+-- the answer of a step is possible, and the first usual one of its class
 pub record IsFit (possible : List (List ℕ)) (w : Way) : Type 0 where
   pub code : w.code < 31
   pub member : IsTrue (is_in w.code (slice_index_or possible w.name all_codes))
   pub within : w.name < length possible
+  pub usual : first_usual w.class ≡ Some w.code
 
 -- the steps to node k leave `left` and `right` of the runs, and `held` is held after them
 pub record IsWayTo (old new : List FlatItem) (names : List ℕ) (possible : List (List ℕ)) (ways : List Way) (k : ℕ) (left right : Runs)
@@ -94,9 +96,15 @@ IsFresh ways parent class = (j : ℕ) (w : Way) → 0 < j → slice_get ways j �
 unfoldable pub AreBelow : List Way → ℕ → Type 0
 AreBelow ways index = (j : ℕ) (w : Way) → 0 < j → slice_get ways j ≡ Some w → w.parent < index
 
+-- steps to later nodes are not from earlier ones
+unfoldable pub AreRising : List Way → Type 0
+AreRising ways =
+    (j k : ℕ) (v w : Way) → 0 < j → j ≤ k → slice_get ways j ≡ Some v → slice_get ways k ≡ Some w → v.parent ≤ w.parent
+
 pub record AreOrdered (ways : List Way) (index : ℕ) : Type 0 where
   pub unique : AreUnique ways
   pub below : AreBelow ways index
+  pub rising : AreRising ways
 
 -- the steps are the same as before, or there is one more
 abbrev pub HasOneMore : List Way → List Way → Way → Type 0
@@ -121,19 +129,22 @@ pub record IsWalkedAt (old new : List FlatItem) (naming : Naming) (nodes : Nodes
 unfoldable pub AreWalked : List FlatItem → List FlatItem → Naming → Nodes → Type 0
 AreWalked old new naming nodes = (k : ℕ) (s : Situation) → slice_get nodes.situations.keys k ≡ Some s → IsWalkedAt old new naming nodes k s
 
--- the node that was found for a change
-abbrev pub found_at : Found → Change → Option ℕ
-found_at found Admits = found.admits
-found_at found Refuses = found.refuses
-found_at found Tells = found.tells
-
 -- both runs end at node k, and their decisions make this change
 pub record IsEnd (old new : List FlatItem) (nodes : Nodes) (k : ℕ) (change : Change) : Type 0 where
   pub situation : Situation
   pub node : Stop
   pub is_there : slice_get nodes.situations.keys k ≡ Some situation
   pub is_at : IsAt nodes situation node
+  pub old_ends : asked_module (rest_of old node.old) ≡ None
+  pub new_ends : asked_module (rest_of new node.new) ≡ None
   pub change_is : (a b : Assignment) → change_of (decision_in (rest_of old node.old) a) (decision_in (rest_of new node.new) b) ≡ Some change
 
 unfoldable pub AreEnds : List FlatItem → List FlatItem → Nodes → Found → Type 0
 AreEnds old new nodes found = (change : Change) (k : ℕ) → found_at found change ≡ Some k → IsEnd old new nodes k change
+
+-- no answers that make this change take fewer steps than there are to node k
+unfoldable pub IsNearest : List FlatItem → List FlatItem → Naming → List Way → ℕ → Change → Type 0
+IsNearest old new naming ways k change =
+    (a : Assignment) (n : ℕ) (trail : List Way) → IsPossible naming.possible.items a →
+    change_of (decision_in (runs_of old) a) (decision_in (runs_of new) (by_name naming.names.items a)) ≡ Some change →
+    EndsAfter naming.names.items (first_of naming.ranks) a (by_name naming.names.items a) n (runs_of old) (runs_of new) → IsTrail ways k trail → length trail ≤ n

@@ -4,14 +4,14 @@ use Rattle.std.specs.Prelude.{◌≡◌, ℕ, Bool, true, false, ◌+◌, ◌-�
 use Rattle.std.specs.Prelude.{Option, Some, None, Result, Ok, Err, MatchResult, Vec, if◌then◌else◌}
 use Rattle.std.specs.Borrow.{Bor}
 use Rattle.std.specs.Global.{Global}
-use Rattle.std.specs.Option.{option_map}
+use Rattle.std.specs.Option.{option_map, option_map_or}
 use Rattle.pam_conf.specs.inner.FileRules.{files_read}
 use Rattle.pam_conf.specs.Files.{Folder}
 use Rattle.pam_conf.specs.ItemsOf.{items_of}
 use Rattle.pam_conf.specs.inner.FilesRead.{file_view}
 use Rattle.pam_conf.specs.inner.Kept.{kept_view}
 use Rattle.pam_conf.specs.Rule.{RuleText}
-use Rattle.pam_conf.specs.Survey.{good_at, with_file}
+use Rattle.pam_conf.specs.Survey.{good_at, one_too_many, with_file}
 use Rattle.pam_conf.specs.Tells.{UnlessMemory}
 use Rattle.pam_conf.specs.Stack.{Items, joined, module_count}
 use Rattle.pam_conf.specs.Walk.{Walk, Event, Met, Followed, Failed, Deeper, Reads, deeper, numbered, is_of_kind, read_walk, rules_at, rules_walk, fault_at}
@@ -55,8 +55,14 @@ with_module n = record n { modules = n.modules + 1 }
 abbrev pub with_follow : Bool → ℕ → Count → Count
 with_follow on target n = record n { follows = n.follows + 1; reached = if on then with_file n.reached target else n.reached }
 
+-- the fault of a target, which counts as a follow
 abbrev pub with_fault : ConfError → Count → Count
-with_fault fault n = record n { noted = n.noted ++ fault ∷ [] }
+with_fault fault n = record n { follows = n.follows + 1; noted = n.noted ++ fault ∷ [] }
+
+-- what ends a walk at such a fault: the fault itself, or for a walk that goes on after faults one follow too many
+unfoldable pub ending : Bool → Count → ConfError → Option ConfError
+ending false n fault = Some fault
+ending true n fault = if n.follows == MAX_FOLLOWS then Some (one_too_many fault) else None
 
 -- what the events come to, for a walk that goes on after faults, or does not
 unfoldable pub account : Bool → Count → List Event → Account
@@ -65,7 +71,7 @@ account on n (Met file line ∷ events) =
     if n.modules == MAX_MODULES then ended_by n (fault_at file line TooManyModules) else account on (with_module n) events
 account on n (Followed file line target ∷ events) =
     if n.follows == MAX_FOLLOWS then ended_by n (fault_at file line TooManyFollowed) else account on (with_follow on target n) events
-account on n (Failed fault ∷ events) = if on then account on (with_fault fault n) events else ended_by n fault
+account on n (Failed fault ∷ events) = option_map_or (ended_by n) (ending on n fault) (account on (with_fault fault n) events)
 
 -- the walk leads from this count and these items to the new ones
 pub record Passes (on : Bool) (n : Count) (items : Items) (w : Walk) (new : Count) (new_items : Items) : Type 0 where

@@ -1,10 +1,10 @@
 -- For private contracts and proofs alone: the findings that are meant to be.
 use Rattle.std.specs.Prelude.{◌≡◌, ℕ, List}
-use Rattle.pam_accept.specs.Lines.{Accepted}
+use Rattle.pam_findings.specs.accepted.Lines.{Accepted}
 use Rattle.pam_conf.specs.Files.{Folder}
-use Rattle.pam_host.specs.declared.problem.Place.{Place}
-use Rattle.pam_host.specs.declared.report.Finding.{Finding}
-use Rattle.pam_table_check.specs.declared.problem.TableFinding.{TableFinding}
+use Rattle.pam_findings.specs.declared.host.problem.Place.{Place}
+use Rattle.pam_findings.specs.declared.host.report.Finding.{Finding}
+use Rattle.pam_findings.specs.declared.tables.problem.TableFinding.{TableFinding}
 use Rattle.pam_report.specs.declared.report.accepting.Listed.{Listed}
 use Rattle.pam_report.specs.TablePaths.{TablePathsText}
 use Rattle.pam_report.specs.Accepting.{not_accepted, tables_not_accepted, lines_without, all_keys}

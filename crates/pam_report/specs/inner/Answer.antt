@@ -1,7 +1,7 @@
 -- For private contracts and proofs alone: the answer to a request.
 use Rattle.std.specs.Prelude.{◌≡◌, Result, Ok, Err}
 use Rattle.pam_tables.specs.declared.access.AccessAnswer.{AccessAnswer}
-use Rattle.pam_times.specs.declared.times.TimeAnswer.{TimeAnswer}
+use Rattle.pam_tables.specs.declared.times.table.TimeAnswer.{TimeAnswer}
 use Rattle.pam_report.specs.Finds.{IsTableFault, IsTimeFault}
 use Rattle.pam_report.specs.Reply.{Answer, Access as AccessReply, Time as TimeReply}
 use Rattle.pam_report.specs.declared.fault.Fault.{Fault}

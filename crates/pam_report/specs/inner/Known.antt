@@ -1,14 +1,14 @@
 -- For private contracts and proofs alone: a known stack that is found, or why there is none.
 use Rattle.std.specs.Prelude.{◌≡◌, ⊤, ℕ, List, Option, Result, Ok, Err, is_some, map}
 use Rattle.pam_conf.specs.Stack.{Items, module_count}
-use Rattle.pam_known.specs.Knowledge.{Agree, allows_codes}
-use Rattle.pam_known.specs.Reads.{IsOfRead, TablesRead}
-use Rattle.pam_known.specs.Tables.{TablesText, TimedText}
-use Rattle.pam_known.specs.declared.error.KnownError.{KnownError}
+use Rattle.pam_facts.specs.known.Knowledge.{Agree, allows_codes}
+use Rattle.pam_facts.specs.known.Reads.{IsOfRead, TablesRead}
+use Rattle.pam_facts.specs.known.Tables.{TablesText, TimedText}
+use Rattle.pam_facts.specs.declared.known.error.KnownError.{KnownError}
 use Rattle.pam_paths.specs.Known.{may_answer}
 use Rattle.pam_paths.specs.Listing.{Allowance}
 use Rattle.pam_paths.specs.declared.knowledge.Known.{Known}
-use Rattle.pam_settings.specs.Settings.{setting_view}
+use Rattle.pam_facts.specs.settings.Settings.{setting_view}
 use Rattle.pam_report.specs.Answer.{stack_at}
 use Rattle.pam_report.specs.Fault.{known_fault}
 use Rattle.pam_report.specs.KnownStack.{KnownItems}

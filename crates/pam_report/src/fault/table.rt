@@ -6,14 +6,14 @@ ghost use Rattle.pam_report.specs.inner.FaultViews.{row_view};
 
 use super::row::Row;
 use crate::inputs::InputError;
-use pam_accept::AcceptError;
 use pam_codes::ControlError;
 use pam_conf::FaultKind;
 use pam_facts::FactsFault;
+use pam_findings::accepted::AcceptError;
 use pam_paths::CursorError;
+use pam_tables::times::{MomentError, TimeFault};
 use pam_tables::{Table, TableFault};
 use pam_text::SourceFault;
-use pam_times::{MomentError, TimeFault};
 use pam_words::Usage;
 
 const HELP: u8 = 0;
@@ -122,6 +122,20 @@ pub(super) fn number_row() -> Row
     ensures { row_view result ≡ spec.number_row }
 {
     Row::of("U14 NoSuchNumber", BAD_REQUEST)
+}
+
+/// The row of a name that is no service.
+pub(super) fn service_row() -> Row
+    ensures { row_view result ≡ spec.service_row }
+{
+    Row::of("U18 NoSuchService", BAD_REQUEST)
+}
+
+/// The row of a candidate that no service reads.
+pub(super) fn candidate_row() -> Row
+    ensures { row_view result ≡ spec.candidate_row }
+{
+    Row::of("U19 UnusedCandidate", BAD_REQUEST)
 }
 
 /// The row of codes that are not as many as the modules.

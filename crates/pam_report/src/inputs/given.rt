@@ -6,7 +6,7 @@ ghost use Rattle.std.specs.Option.{option_map_or};
 use crate::inputs::{Inputs, SideInputs, TableFile};
 use crate::tables::TablePaths;
 use pam_conf::Files;
-use pam_table_check::HostTables;
+use pam_findings::tables::HostTables;
 use pam_text::Texts;
 
 impl Inputs {
@@ -14,9 +14,9 @@ impl Inputs {
     ghost use Rattle.std.specs.Option.{option_map_or};
     ghost use Rattle.pam_report.specs.Inputs.{accept_given, access_given, facts_given, files_given};
     ghost use Rattle.pam_report.specs.Inputs.{group_file, host_tables_given, new_given, old_given, paths_given, returns_given};
-    ghost use Rattle.pam_report.specs.Inputs.{table_paths_given, there_given, time_given};
+    ghost use Rattle.pam_report.specs.Inputs.{table_paths_given, there_given, time_given, vendor_start_given};
     ghost use Rattle.pam_report.specs.TablePaths.{table_paths_view};
-    ghost use Rattle.pam_table_check.specs.Tables.{tables_view as host_tables_view};
+    ghost use Rattle.pam_findings.specs.tables.Tables.{tables_view as host_tables_view};
 
     /// Returns the configuration, if there is exactly one.
     pub fn files(&self) -> Option<&Files>
@@ -41,6 +41,16 @@ impl Inputs {
             Inputs::Host { given, .. } => given.there.as_ref(),
             Inputs::Paths { given, .. } => given.there.as_ref(),
             _ => None,
+        }
+    }
+
+    /// Returns the position from which on the files of `check` are those that only the second folder has.
+    pub(crate) fn vendor_start(&self) -> usize
+        ensures { result ≡ vendor_start_given self.now }
+    {
+        match self {
+            Inputs::Host { given, .. } => given.vendor_start,
+            _ => 0,
         }
     }
 

@@ -1,14 +1,14 @@
 //! What gives the codes of modules, from the inputs of the commands about paths.
 
 ghost use Rattle.std.specs.Prelude.{◌≡◌, None, option_map};
-ghost use Rattle.pam_known.specs.Tables.{tables_view, timed_view};
+ghost use Rattle.pam_facts.specs.known.Tables.{tables_view, timed_view};
 ghost use Rattle.pam_report.specs.Inputs.{tables_given as tables_in, timed as timed_text};
 ghost use Rattle.pam_report.specs.inner.Known.{with_time};
 
 use crate::inputs::given::{slice_given, table_bytes};
 use crate::inputs::{Inputs, TableFile};
 use jiff::civil::DateTime;
-use pam_known::{Tables, TimedTable};
+use pam_facts::known::{Tables, TimedTable};
 
 /// Returns a time table with the moment. Without a moment there is no time table.
 fn timed(table: &Option<TableFile>, moment: Option<DateTime>) -> Option<TimedTable<'_>>

@@ -1,32 +1,37 @@
 //! The `check` command: what is wrong with a host.
 
-ghost use Rattle.std.specs.Prelude.{◌≡◌, [], IfOk, IfErr, MatchResult, true, unwrap_or};
+ghost use Rattle.std.specs.Prelude.{◌≡◌, [], IfOk, IfErr, MatchResult, map, true, unwrap_or};
 ghost use Rattle.std.specs.Option.{option_copied};
+ghost use Rattle.pam_report.specs.Candidates.{IfUsed, first_unused};
 ghost use Rattle.pam_report.specs.Check.{IsCheck};
 ghost use Rattle.pam_report.specs.inner.Check.{IsAccepted, IsListedFrom, IsReported, IsUnaccepted, IsUnreported};
 ghost use Rattle.pam_report.specs.Finds.{Finds};
 ghost use Rattle.pam_report.specs.Inputs.{host_tables_given};
-ghost use Rattle.pam_table_check.specs.Report.{IsTableReport};
+ghost use Rattle.pam_findings.specs.tables.Report.{IsTableReport};
 ghost use Rattle.pam_report.specs.Memory.{WantsOnly, of_stack};
 ghost use Rattle.pam_report.specs.Reply.{check_status, counts, has_counting, has_counting_table};
 ghost use Rattle.pam_report.specs.ReplyViews.{check_view};
+ghost use Rattle.pam_report.specs.Services.{IfServices, has_services};
 ghost use Rattle.pam_report.specs.TablePaths.{table_paths_view};
+ghost use Rattle.pam_words.specs.Wanted.{candidate_view};
 
 use super::Status;
 use super::accepting::{Listed, list_findings};
 use super::replies::Reply;
+use crate::candidates::require_used;
 use crate::fault::{Fault, accept_fault, facts_fault};
 use crate::inputs::Inputs;
+use crate::services::require_all;
 use crate::tables::{TablePaths, table_problem_level};
-use pam_accept::AcceptFile;
 use pam_conf::{Files, Form};
 use pam_facts::Facts;
-use pam_host::laws::a_silent_host_is_sound;
-use pam_host::{Finding, HostReport, Level, Place};
-use pam_misspelled::{Misspelled, misspelled_words};
-use pam_table_check::{TableFinding, TableReport};
+use pam_findings::accepted::AcceptFile;
+use pam_findings::host::laws::a_silent_host_is_sound;
+use pam_findings::host::{Finding, HostReport, Level, Place};
+use pam_findings::misspelled::{Misspelled, misspelled_words};
+use pam_findings::tables::{TableFinding, TableReport};
 use pam_text::Texts;
-use pam_words::{CheckFiles, LevelName};
+use pam_words::{Candidate, CheckFiles, LevelName};
 use std::alloc::Global;
 
 /// What is wrong with a host.
@@ -52,10 +57,11 @@ pub struct CheckReply<'a> {
     pub fail_on: LevelName,
 }
 
-/// The services that are checked, all if none is named, and how.
+/// The services that are checked, all if none is named, the candidates for their files, and how.
 #[derive(Clone, Copy)]
 pub(super) struct CheckRequest<'x, 'a> {
     pub services: &'x Texts,
+    pub candidates: &'x [Candidate<'a>],
     pub fail_on: LevelName,
     pub given: &'x CheckFiles<'a>,
 }
@@ -117,7 +123,14 @@ fn report(
         Ok(facts) => facts,
         Err(error) => return Err(facts_fault(error)),
     };
-    match HostReport::of(alloc, files, services, &facts, inputs.there()) {
+    match HostReport::of(
+        alloc,
+        files,
+        inputs.vendor_start(),
+        services,
+        &facts,
+        inputs.there(),
+    ) {
         Ok(report) => Ok(report),
         Err(_) => Err(Fault::Memory),
     }
@@ -177,10 +190,46 @@ fn accept_name<'a>(given: &CheckFiles<'a>) -> &'a str
     }
 }
 
-/// Returns the findings of the services that are named, or of all.
+/// Returns the findings of the services that are named, or of all. Each that is named has to be one of the configuration, and some
+/// service that is checked has to read each candidate.
 // Not inlined, so that a command uses no stack for the values of the others.
 #[inline(never)]
 pub(super) fn checked<'a>(
+    alloc: Global,
+    asked: CheckRequest<'_, 'a>,
+    files: &Files,
+    inputs: &'a Inputs,
+) -> Result<Reply<'a>, Fault>
+    ensures answer { Finds result (IfServices (has_services files.now asked.entry.services.now)
+        (IfUsed (first_unused files.now asked.entry.services.now (map candidate_view asked.entry.candidates.now))
+        (IsCheck asked.entry.services.now asked.entry.fail_on asked.entry.given.now files.now inputs.now))) }
+    ensures wants { WantsOnly (of_stack true) result }
+{
+    match require_all(alloc, files, asked.services) {
+        Ok(()) => checked_candidates(alloc, asked, files, inputs),
+        Err(fault) => Err(fault),
+    }
+}
+
+/// Returns the findings of services, if some of them reads each candidate.
+fn checked_candidates<'a>(
+    alloc: Global,
+    asked: CheckRequest<'_, 'a>,
+    files: &Files,
+    inputs: &'a Inputs,
+) -> Result<Reply<'a>, Fault>
+    ensures answer { Finds result (IfUsed (first_unused files.now asked.entry.services.now (map candidate_view asked.entry.candidates.now))
+        (IsCheck asked.entry.services.now asked.entry.fail_on asked.entry.given.now files.now inputs.now)) }
+    ensures wants { WantsOnly (of_stack true) result }
+{
+    match require_used(alloc, files, asked.services, asked.candidates) {
+        Ok(()) => checked_services(alloc, asked, files, inputs),
+        Err(fault) => Err(fault),
+    }
+}
+
+/// Returns the findings of the services that are named, or of all.
+fn checked_services<'a>(
     alloc: Global,
     asked: CheckRequest<'_, 'a>,
     files: &Files,

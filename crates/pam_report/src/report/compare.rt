@@ -11,17 +11,19 @@ ghost use Rattle.pam_report.specs.Inputs.{no_files, returns_given};
 ghost use Rattle.pam_report.specs.Memory.{WantsOnly, of_compare};
 ghost use Rattle.pam_report.specs.Reply.{compare_status};
 ghost use Rattle.pam_report.specs.ReplyViews.{compare_view, side_files};
-ghost use Rattle.pam_settings.specs.Settings.{setting_view};
+ghost use Rattle.pam_report.specs.Services.{IfServices, sides_have};
+ghost use Rattle.pam_facts.specs.settings.Settings.{setting_view};
 
 use super::Status;
 use super::compared_keys::are_keys;
 use super::replies::Reply;
 use crate::fault::{Fault, facts_fault};
 use crate::inputs::{Inputs, SideInputs};
+use crate::services::require_either;
 use pam_changes::{HostChanges, Side, Sides};
 use pam_conf::{Files, Form, Kind};
 use pam_facts::Facts;
-use pam_settings::Setting;
+use pam_facts::settings::Setting;
 use pam_tables::{ReturnTable, TableError};
 use pam_text::Texts;
 use std::alloc::{AllocError, Global};
@@ -168,10 +170,26 @@ fn files_of<'a>(side: Option<&'a SideInputs>) -> Option<&'a Files>
     }
 }
 
-/// Returns what changes for the service and the kind that are named, or for all.
+/// Returns what changes for the service and the kind that are named, or for all. One of the two configurations has to have the service.
 // Not inlined, so that a command uses no stack for the values of the others.
 #[inline(never)]
 pub(super) fn compared<'a>(
+    alloc: Global,
+    asked: CompareRequest<'_>,
+    inputs: &'a Inputs,
+) -> Result<Reply<'a>, Fault>
+    ensures answer { Finds result (IfServices (sides_have inputs.now (option_copied asked.entry.service))
+        (IsCompare (option_copied asked.entry.service) asked.entry.kind (map setting_view asked.entry.settings.now) inputs.now)) }
+    ensures wants { WantsOnly (of_compare (is_some (returns_given inputs.now))) result }
+{
+    match require_either(alloc, inputs, asked.service) {
+        Ok(()) => compared_services(alloc, asked, inputs),
+        Err(fault) => Err(fault),
+    }
+}
+
+/// Returns what changes for the service and the kind that are named, or for all.
+fn compared_services<'a>(
     alloc: Global,
     asked: CompareRequest<'_>,
     inputs: &'a Inputs,

@@ -4,11 +4,11 @@ ghost use Rattle.std.specs.Prelude.{◌≡◌, IfOk, map};
 ghost use Rattle.std.specs.List.{list_all, list_any};
 ghost use Rattle.pam_conf.specs.Rule.{rule_view};
 ghost use Rattle.pam_report.specs.ComparedKeys.{calls as calls_module, has_module as has_module_of, names_module_in};
-ghost use Rattle.pam_settings.specs.Settings.{setting_view};
+ghost use Rattle.pam_facts.specs.settings.Settings.{setting_view};
 
 use pam_conf::{Body, Files, Rule, RuleFiles};
-use pam_known::name_of_path;
-use pam_settings::Setting;
+use pam_facts::known::name_of_path;
+use pam_facts::settings::Setting;
 use std::alloc::{AllocError, Global};
 
 /// Whether a rule calls a module of this name.

@@ -7,10 +7,12 @@ ghost use Rattle.pam_report.specs.Graph.{IsGraphReply, IsGraphReplyOf, has_too_m
 ghost use Rattle.pam_report.specs.inner.GraphViews.{FindsGraph};
 ghost use Rattle.pam_report.specs.inner.Known.{FindsOf, WantsForRuns, stack_from};
 ghost use Rattle.pam_report.specs.inner.Memory.{WantsWork};
+ghost use Rattle.pam_report.specs.Services.{IfServices, has_service};
 
 use super::known_stack::{KnownStack, Sources, StackRequest, known_stack};
 use super::replies::Reply;
 use crate::fault::Fault;
+use crate::services::require;
 use pam_conf::{Kind, Stack};
 use pam_dispatch::Program;
 use pam_graph::{Graph, GraphError};
@@ -90,9 +92,7 @@ fn answer_known<'a>(
 }
 
 /// Returns the graph of the stack that is asked for.
-// Not inlined, so that a command uses no stack for the values of the others.
-#[inline(never)]
-pub(super) fn answer_graph<'a>(
+fn answer_service<'a>(
     sources: &Sources<'_, '_>,
     request: &DrawingRequest<'a>,
 ) -> Result<Reply<'a>, Fault>
@@ -102,6 +102,24 @@ pub(super) fn answer_graph<'a>(
 {
     match known_stack(sources, &request.stack) {
         Ok(found) => answer_known(sources.alloc, request, found),
+        Err(fault) => Err(fault),
+    }
+}
+
+/// Returns the graph of the stack that is asked for, whose service has to be one of the configuration.
+// Not inlined, so that a command uses no stack for the values of the others.
+#[inline(never)]
+pub(super) fn answer_graph<'a>(
+    sources: &Sources<'_, '_>,
+    request: &DrawingRequest<'a>,
+) -> Result<Reply<'a>, Fault>
+    ensures answer { let asked = request.now.stack in
+        Finds result (IfServices (has_service sources.now.files.now asked.service.now)
+        (IsGraphReply request.now.format asked.service.now asked.kind (stack_from sources.now asked))) }
+    ensures wants { WantsForRuns sources.now result }
+{
+    match require(sources.alloc, sources.files, request.stack.service) {
+        Ok(()) => answer_service(sources, request),
         Err(fault) => Err(fault),
     }
 }

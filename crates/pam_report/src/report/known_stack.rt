@@ -3,9 +3,9 @@
 ghost use Rattle.std.specs.Prelude.{IfErr, None, is_some, option_map};
 ghost use Rattle.pam_conf.specs.Resolution.{resolved};
 ghost use Rattle.pam_report.specs.Answer.{login_at};
-ghost use Rattle.pam_known.specs.Knowledge.{knowledge};
-ghost use Rattle.pam_known.specs.Reads.{tables_read};
-ghost use Rattle.pam_known.specs.Tables.{tables_view, timed_view};
+ghost use Rattle.pam_facts.specs.known.Knowledge.{knowledge};
+ghost use Rattle.pam_facts.specs.known.Reads.{tables_read};
+ghost use Rattle.pam_facts.specs.known.Tables.{tables_view, timed_view};
 ghost use Rattle.pam_report.specs.Inputs.{tables_given as tables_in};
 ghost use Rattle.pam_report.specs.inner.Known.{FindsKnown, FindsStack, IsFaultOfRead, stack_from, with_time};
 ghost use Rattle.pam_report.specs.KnownStack.{known_at as stack_at, known_items, known_stack as stack_known, known_then as stack_then};
@@ -18,12 +18,12 @@ use crate::fault::{Fault, known_fault};
 use crate::inputs::{Inputs, tables_with, timed_given};
 use jiff::civil::DateTime;
 use pam_conf::{Files, Kind, Stack, resolve};
-use pam_known::{Tables, TimedTable, known_answers};
+use pam_facts::known::{Tables, TimedTable, known_answers};
+use pam_facts::settings::Setting;
 use pam_paths::Known;
-use pam_settings::Setting;
 use pam_tables::Login as TableLogin;
+use pam_tables::times::MomentError;
 use pam_text::Texts;
-use pam_times::MomentError;
 use pam_words::Login;
 use std::alloc::Global;
 

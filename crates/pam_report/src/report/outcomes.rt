@@ -10,10 +10,12 @@ ghost use Rattle.pam_report.specs.inner.Memory.{WantsWork};
 ghost use Rattle.pam_report.specs.inner.OutcomeViews.{AreOutcomes, FindsOutcomes, as_list};
 ghost use Rattle.pam_report.specs.Outcomes.{IsOutcomes, IsOutcomesOf, outcome_among};
 ghost use Rattle.pam_report.specs.ReplyViews.{outcome_view};
+ghost use Rattle.pam_report.specs.Services.{IfServices, has_service};
 
 use super::known_stack::{KnownStack, Sources, StackRequest, known_stack};
 use super::replies::Reply;
 use crate::fault::Fault;
+use crate::services::require;
 use pam_codes::{CODES, Code};
 use pam_conf::{Kind, Stack};
 use pam_dispatch::Program;
@@ -136,9 +138,7 @@ fn answer_known<'a>(
 }
 
 /// Returns the outcomes of the stack that is asked for.
-// Not inlined, so that a command uses no stack for the values of the others.
-#[inline(never)]
-pub(super) fn answer_outcomes<'a>(
+fn answer_service<'a>(
     sources: &Sources<'_, '_>,
     request: &StackRequest<'a>,
 ) -> Result<Reply<'a>, Fault>
@@ -147,6 +147,23 @@ pub(super) fn answer_outcomes<'a>(
 {
     match known_stack(sources, request) {
         Ok(found) => answer_known(sources.alloc, request, found),
+        Err(fault) => Err(fault),
+    }
+}
+
+/// Returns the outcomes of the stack that is asked for, whose service has to be one of the configuration.
+// Not inlined, so that a command uses no stack for the values of the others.
+#[inline(never)]
+pub(super) fn answer_outcomes<'a>(
+    sources: &Sources<'_, '_>,
+    request: &StackRequest<'a>,
+) -> Result<Reply<'a>, Fault>
+    ensures answer { Finds result (IfServices (has_service sources.now.files.now request.now.service.now)
+        (IsOutcomes request.now.service.now request.now.kind (stack_from sources.now request.now))) }
+    ensures wants { WantsForRuns sources.now result }
+{
+    match require(sources.alloc, sources.files, request.service) {
+        Ok(()) => answer_service(sources, request),
         Err(fault) => Err(fault),
     }
 }

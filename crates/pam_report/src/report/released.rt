@@ -1,17 +1,20 @@
 //! The `show` command with `--as`: the rules of the service's own file, as a release of Linux-PAM reads them.
 
-ghost use Rattle.std.specs.Prelude.{◌≡◌, IfOk, false, filter, map, true};
+ghost use Rattle.std.specs.Prelude.{◌≡◌, ◌||◌, IfOk, codes, false, filter, map, true};
+ghost use Rattle.std.specs.List.{list_any};
 ghost use Rattle.std.specs.Option.{option_map, option_map_or};
 ghost use Rattle.std.specs.Str.{bytes_eq};
 ghost use Rattle.pam_conf.specs.Files.{position_of};
 ghost use Rattle.pam_conf.specs.Lines.{fault_of_source};
 ghost use Rattle.pam_conf.specs.Tells.{ErrorTells};
 ghost use Rattle.pam_conf.specs.Walk.{same_kind};
-ghost use Rattle.pam_released.specs.Readings.{numbered_rules, numbered_view, reading_view, rule_view};
+ghost use Rattle.pam_released.specs.Control.{then_some};
+ghost use Rattle.pam_released.specs.Readings.{numbered_rules, numbered_view, reading_view};
 ghost use Rattle.pam_report.specs.Answer.{answer_of};
 ghost use Rattle.pam_report.specs.Finds.{Finds};
 ghost use Rattle.pam_report.specs.Memory.{WantsOnly, of_stack};
-ghost use Rattle.pam_report.specs.Released.{chosen, concerns, fault_in, own_file, reading_at, release_of_name, released};
+ghost use Rattle.pam_report.specs.Released.{chosen, concerns, fault_in, own_file, reading_at, refuses, release_of_name};
+ghost use Rattle.pam_report.specs.Released.{released};
 ghost use Rattle.pam_report.specs.ReplyViews.{released_view};
 ghost use Rattle.pam_text.specs.Gives.{Gives};
 
@@ -19,7 +22,7 @@ use super::login::lowered;
 use super::replies::Reply;
 use crate::fault::Fault;
 use pam_conf::{ConfError, FaultKind, Files, Form, Kind};
-use pam_released::{LineRule, NumberedReading, Reading, Release, released_rules};
+use pam_released::{NumberedReading, Reading, Release, released_rules};
 use pam_text::{Source, SourceFault};
 use pam_words::ReleaseName;
 use std::alloc::{AllocError, Global};
@@ -32,7 +35,7 @@ pub struct ReleasedReply<'a> {
     pub release: ReleaseName,
     /// The name of the file.
     pub file: Vec<u8>,
-    /// `None` where the release refuses the file.
+    /// `None` where the release refuses the configuration.
     pub rules: Option<Vec<NumberedReading>>,
 }
 
@@ -76,19 +79,21 @@ fn position(files: &Files, name: &[u8]) -> Option<usize>
     None
 }
 
-fn is_of_service(rule: &LineRule, service: &[u8]) -> bool
-    ensures { result ≡ option_map_or (bytes_eq service.now) (rule_view rule.now).service true }
+/// Whether this is the service that a line names, or it names none.
+fn is_of_service(named: &Option<Vec<u8>>, service: &[u8]) -> bool
+    ensures { result ≡ option_map_or (bytes_eq service.now) (option_map (λ s. s.items) named.now) true }
 {
-    match &rule.service {
+    match named {
         Some(named) => service == named.as_slice(),
         None => true,
     }
 }
 
-fn is_of_kind(rule: &LineRule, kind: Kind) -> bool
-    ensures { result ≡ option_map_or (same_kind kind) rule.now.kind true }
+/// Whether this is the kind of a rule, or it has none.
+fn is_of_kind(named: Option<Kind>, kind: Kind) -> bool
+    ensures { result ≡ option_map_or (same_kind kind) named true }
 {
-    match rule.kind {
+    match named {
         Some(named) => kind == named,
         None => true,
     }
@@ -99,9 +104,40 @@ fn concerns(reading: &Reading, service: &[u8], kind: Kind) -> bool
     ensures { result ≡ concerns service.now kind (reading_view reading.now) }
 {
     match reading {
-        Reading::Rule(rule) => is_of_service(rule, service) && is_of_kind(rule, kind),
-        Reading::Fails => true,
+        Reading::Rule(rule) => is_of_service(&rule.service, service) && is_of_kind(rule.kind, kind),
+        Reading::Fails(rule) => {
+            is_of_service(&rule.service, service) && is_of_kind(Some(rule.kind), kind)
+        }
+        Reading::Refuses(_) => false,
     }
+}
+
+/// Whether this is the service that a line names, or it names `other` or none.
+fn is_of_service_or_other(named: &Option<Vec<u8>>, service: &[u8]) -> bool
+    ensures { result ≡ option_map_or (λ name. bytes_eq service.now name || bytes_eq (codes "other") name) (option_map (λ s. s.items) named.now) true }
+{
+    match named {
+        Some(named) => service == named.as_slice() || b"other".as_slice() == named.as_slice(),
+        None => true,
+    }
+}
+
+/// Whether what is read makes the release refuse the configuration where a service, in lowercase, is asked for.
+fn refuses(reading: &Reading, service: &[u8]) -> bool
+    ensures { result ≡ refuses service.now (reading_view reading.now) }
+{
+    match reading {
+        Reading::Rule(_) => false,
+        Reading::Fails(_) => false,
+        Reading::Refuses(named) => is_of_service_or_other(named, service),
+    }
+}
+
+/// Whether one of these rules makes the release refuse the configuration.
+fn some_refuses(rules: &[NumberedReading], service: &[u8]) -> bool
+    ensures { result ≡ list_any (λ rule. refuses service.now (reading_view rule.reading)) rules.now }
+{
+    rules.iter().any(|rule| refuses(&rule.reading, service))
 }
 
 /// Keeps the rules that concern a service, in lowercase, and a kind.
@@ -112,7 +148,27 @@ fn keep_those_of(rules: &mut Vec<NumberedReading>, service: &[u8], kind: Kind)
     rules.retain(|rule| concerns(&rule.reading, service, kind));
 }
 
-/// The rules that a release reads for a service and a kind; `None` where it refuses the file.
+/// Those of these rules that concern a service and a kind; `None` where one makes the release refuse the configuration.
+#[tactic(auto, using(crate::proofs::ReleasedRules::none_chosen, crate::proofs::ReleasedRules::those_chosen))]
+fn chosen(
+    alloc: Global,
+    service: &str,
+    kind: Kind,
+    rules: Vec<NumberedReading>,
+) -> Result<Option<Vec<NumberedReading>>, AllocError>
+    ensures { IfOk result (λ found. option_map (λ rules. map numbered_view rules.items) found
+        ≡ chosen service.now kind (map numbered_view rules.items)) }
+{
+    let service = lowered(alloc, service)?;
+    if some_refuses(&rules, service.as_slice()) {
+        return Ok(None);
+    }
+    let mut rules = rules;
+    keep_those_of(&mut rules, service.as_slice(), kind);
+    Ok(Some(rules))
+}
+
+/// The rules that a release reads for a service and a kind; `None` where it refuses the configuration.
 fn chosen_rules(
     alloc: Global,
     asked: ReleaseRequest<'_>,
@@ -120,15 +176,14 @@ fn chosen_rules(
     source: Source<'_>,
 ) -> Result<Option<Vec<NumberedReading>>, AllocError>
     ensures { IfOk result (λ found. option_map (λ rules. map numbered_view rules.items) found
-        ≡ option_map (chosen asked.entry.service.now asked.entry.kind) (numbered_rules (release_of_name asked.entry.release) form source.entry.bytes.now)) }
+        ≡ then_some (numbered_rules (release_of_name asked.entry.release) form source.entry.bytes.now)
+        (chosen asked.entry.service.now asked.entry.kind)) }
 {
     let release = release_of_name(asked.release);
-    let Some(mut rules) = released_rules(alloc, release, source, form)? else {
-        return Ok(None);
-    };
-    let service = lowered(alloc, asked.service)?;
-    keep_those_of(&mut rules, service.as_slice(), asked.kind);
-    Ok(Some(rules))
+    match released_rules(alloc, release, source, form)? {
+        Some(rules) => chosen(alloc, asked.service, asked.kind, rules),
+        None => Ok(None),
+    }
 }
 
 /// The fault of the file at a position.

@@ -16,7 +16,7 @@ use super::show::StackReply;
 use pam_dispatch::Decision;
 use pam_explain::Explanation;
 use pam_tables::AccessAnswer;
-use pam_times::TimeAnswer;
+use pam_tables::times::TimeAnswer;
 
 /// The value that answers a request.
 #[derive(Drop)]

@@ -12,16 +12,16 @@ ghost use Rattle.pam_report.specs.KnownStack.{KnownItems};
 ghost use Rattle.pam_report.specs.Settings.{codes_set, file_of, is_place as is_place_of, names_module as names_module_of, names_one as names_one_of};
 ghost use Rattle.pam_report.specs.Settings.{set_at as set_at_number, sets as sets_codes, sets_at as sets_at_number, with_settings as with_settings_of};
 ghost use Rattle.pam_report.specs.declared.fault.Fault.{Fault as FaultText};
-ghost use Rattle.pam_settings.specs.Settings.{setting_view};
+ghost use Rattle.pam_facts.specs.settings.Settings.{setting_view};
 
 use super::known_stack::KnownStack;
 use crate::fault::Fault;
 use pam_codes::CodeSet;
 use pam_conf::{Files, Module, Stack};
+use pam_facts::known::name_of_path;
+use pam_facts::settings::Setting;
 use pam_facts::{replace_codes, set_missing};
-use pam_known::name_of_path;
 use pam_paths::Known;
-use pam_settings::Setting;
 use pam_text::Texts;
 
 /// Whether a text is a number in decimal, without leading zeros.

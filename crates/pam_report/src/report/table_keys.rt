@@ -5,8 +5,8 @@ ghost use Rattle.pam_report.specs.Accepting as spec;
 
 use super::accepting::{Keys, number_in, push_line};
 use crate::tables::{TablePaths, table_problem_name};
-use pam_known::name_of_path;
-use pam_table_check::{TableFinding, TablePlace};
+use pam_facts::known::name_of_path;
+use pam_findings::tables::{TableFinding, TablePlace};
 use std::alloc::{AllocError, Global};
 use std::collections::BTreeMap;
 

@@ -1,21 +1,21 @@
 //! The `time` command: the line of a time table that denies.
 
 ghost use Rattle.std.specs.Prelude.{◌≡◌, IfErr, Ok, Result, is_some, true, false};
-ghost use Rattle.pam_times.specs.Login.{login_view};
+ghost use Rattle.pam_tables.specs.times.Login.{login_view};
 ghost use Rattle.pam_report.specs.Answer.{login_at, timed, with_rules};
 ghost use Rattle.pam_report.specs.inner.Answer.{FindsTime};
 ghost use Rattle.pam_report.specs.Finds.{Finds};
 ghost use Rattle.pam_report.specs.Memory.{IsWanting, WantsOnly, of_tables};
 ghost use Rattle.pam_report.specs.Moments.{IsGivenMoment, IsMoment};
 ghost use Rattle.pam_report.specs.Inputs.{time_given};
-ghost use Rattle.pam_times.specs.Reading.{rules_of};
+ghost use Rattle.pam_tables.specs.times.Reading.{rules_of};
 
 use super::login::{login_to, lowered};
 use super::replies::Reply;
 use crate::fault::Fault;
 use crate::inputs::Inputs;
 use jiff::civil::DateTime;
-use pam_times::{Login, MomentError, TimeAnswer, TimeTable, civil, moment};
+use pam_tables::times::{Login, MomentError, TimeAnswer, TimeTable, civil, moment};
 use pam_words::Moment;
 use std::alloc::Global;
 

@@ -8,8 +8,9 @@ ghost use Rattle.pam_words.specs.Values.{names_source as has_source};
 ghost use Rattle.pam_words.specs.Wanted.{source_view};
 ghost use Rattle.pam_words.specs.inner.Wanted.{GivesTask, IsGiven};
 
+use crate::reading::candidates::services;
 use crate::reading::knowledge::{folders, has, tables};
-use crate::reading::{source, texts, value};
+use crate::reading::{source, value};
 use crate::wanted::{CheckFiles, ConfSource, LevelName, Task, Usage};
 use clap::ArgMatches;
 use std::alloc::{AllocError, Global};
@@ -83,7 +84,7 @@ pub(crate) fn check<'a>(alloc: Global, matches: &ArgMatches<'a>) -> Result<Task<
     let Ok(given) = given(alloc, matches) else {
         return Err(Usage::Memory);
     };
-    match texts(alloc, matches, "name") {
+    match services(alloc, matches) {
         Ok(services) => Ok(Task::Check {
             source,
             services,

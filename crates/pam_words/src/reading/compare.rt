@@ -13,7 +13,7 @@ use crate::reading::{is_on, text, value};
 use crate::wanted::{CompareFiles, ConfSource, Task, Usage};
 use clap::ArgMatches;
 use pam_conf::Kind;
-use pam_settings::Setting;
+use pam_facts::settings::Setting;
 use std::alloc::{AllocError, Global};
 
 /// Returns the source of this name, or `None` if both forms are given.

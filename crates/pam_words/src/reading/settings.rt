@@ -3,7 +3,7 @@
 ghost use Rattle.std.specs.Prelude.{◌≡◌, map, option_map};
 ghost use Rattle.clap.specs.Lexer.{name_and_value};
 ghost use Rattle.clap.specs.Words.{found_of, rows_of};
-ghost use Rattle.pam_settings.specs.Settings.{setting_view};
+ghost use Rattle.pam_facts.specs.settings.Settings.{setting_view};
 ghost use Rattle.pam_words.specs.Settings.{key_in, setting_of, settings_in as settings_in_texts, settings_of};
 ghost use Rattle.pam_words.specs.Wanted.{Gives};
 
@@ -11,7 +11,7 @@ use crate::reading::decisions::set_in;
 use crate::reading::values;
 use crate::wanted::Usage;
 use clap::ArgMatches;
-use pam_settings::Setting;
+use pam_facts::settings::Setting;
 use std::alloc::Global;
 
 /// Cuts `KEY=CODES`. Returns `None` if there is no `=`, or the key is empty.

@@ -8,7 +8,7 @@ use crate::tests::picture::PICTURE;
 use crate::tests::same::same;
 use pam_codes::Out;
 use pam_conf::{Files, Form};
-use pam_print::answer;
+use pam_render::text::answer;
 use pam_report::{Fault, Inputs, KnowledgeInputs, SideInputs, TableFiles, fault_status};
 use pam_words::{Request, request};
 use std::alloc::Global;

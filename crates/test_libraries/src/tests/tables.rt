@@ -1,9 +1,9 @@
 //! Tables and returns files that are too long, and groups.
 
 use crate::tests::same::same;
+use pam_tables::times::{TimeError, TimeFault, TimeTable};
 use pam_tables::{AccessOptions, AccessTable, Groups, ReturnTable, Table, TableError, TableFault};
 use pam_text::Texts;
-use pam_times::{TimeError, TimeFault, TimeTable};
 use std::alloc::Global;
 use std::test::Fail;
 

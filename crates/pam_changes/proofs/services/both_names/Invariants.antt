@@ -1,5 +1,5 @@
 use Rattle.std.proofs.Common.{◌≡◌, fold}
-use Rattle.pam_host.specs.Services.{with_name}
+use Rattle.pam_conf.specs.Services.{with_name}
 use Rattle.pam_changes.proofs.services.both_names.Given as goal
 
 -- the names, and those that are left

@@ -1,4 +1,5 @@
-use Rattle.std.proofs.Common.{◌≡◌, ◌∙◌, ◌++◌, ◌∷◌, ℕ, zero, suc, List, [], Option, ap, arith, drop, inl, inr, length, refl, subst, sym}
+use Rattle.std.proofs.Common.{◌≡◌, ◌≤◌, ◌∙◌, ◌++◌, ◌∷◌, ℕ, zero, suc, List, [], Option, ap, arith, drop, inl, inr, length, refl, subst, sym}
+use Rattle.std.proofs.lemmas.List.{length_push}
 use Rattle.std.proofs.lemmas.Option.{slice_get_within}
 use Rattle.pam_compare.specs.declared.held.HeldAfter.{HeldAfter}
 use Rattle.pam_compare.specs.declared.held.HeldAnswer.{HeldAnswer}
@@ -6,7 +7,7 @@ use Rattle.pam_compare.specs.declared.nodes.Nodes.{Nodes}
 use Rattle.pam_compare.specs.declared.nodes.Way.{Way}
 use Rattle.pam_compare.proofs.Stepping.{ordered-first}
 use Rattle.pam_compare.specs.declared.situation.Situation.{Situation}
-use Rattle.pam_compare.specs.inner.Ways.{AreWalked, IsWalkTo, IsWayTo}
+use Rattle.pam_compare.specs.inner.Ways.{AreWalked, HasOneMore, IsWalkTo, IsWayTo}
 use Rattle.pam_compare.proofs.Reaching.{way-begun}
 use Rattle.pam_compare.proofs.Walking.{walk-begun}
 use Rattle.pam_dispatch.specs.Flat.{rest_of, runs_of}
@@ -34,6 +35,11 @@ none-held nodes none =
     subst (λ (o : Option Situation). IsListed nodes.held_lists.links.keys (list_of o) []) (sym (nothing-at nodes.situations.keys 0 none))
     (listed-none nodes.held_lists.links.keys)
 
+-- there is one step at most
+one-at-most : (before after : List Way) (way : Way) → length before ≡ 0 → HasOneMore before after way → length after ≤ 1
+one-at-most before after way none (inl same) = let e = ap (λ (l : List Way). length l) same in omega (arith, e, none)
+one-at-most before after way none (inr more) = let e = ap (λ (l : List Way). length l) more ∙ length_push before way in omega (arith, e, none)
+
 pub returns-clause-nodes : goal.returns-clause-nodes
 returns-clause-nodes c =
     let old = c.args.pair.now.old.now in
@@ -50,8 +56,13 @@ returns-clause-begun c a low =
     let met = c.in_ok-add.ensures.met old new [] a (c.new-nodes.ensures.nodes old new) (none-held c.new-nodes.result c.new-nodes.ensures.none)
     c.first-old.ensures.place c.first-new.ensures.place low
     (holds-equal a [] _ (sym none) tt) in
-    subst (λ (r : Runs). IsMet old new c.add.new.self a r (runs_of new)) c.first-old.ensures.whole
-    (subst (λ (r : Runs). IsMet old new c.add.new.self a (rest_of old c.first-old.result) r) c.first-new.ensures.whole met)
+    let start = c.new-nodes.ensures in
+    let count = c.in_ok-add.ensures.count (start.ways ∙ sym start.none) in
+    let inside = slice_get_within _ met.index met.situation met.is_there in
+    let few = one-at-most c.new-nodes.result.ways.items c.add.new.self.ways.items _ start.ways c.in_ok-add.ensures.more in
+    let Begun : Runs → Runs → Type 0 = λ l r. (m : IsMet old new c.add.new.self a l r) × (m.index ≡ 0) in
+    subst (λ (r : Runs). Begun r (runs_of new)) c.first-old.ensures.whole
+    (subst (λ (r : Runs). Begun (rest_of old c.first-old.result) r) c.first-new.ensures.whole (met, omega (arith, inside, count, few)))
 
 pub returns-clause-reached : goal.returns-clause-reached
 returns-clause-reached c =

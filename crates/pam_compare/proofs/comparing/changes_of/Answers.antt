@@ -1,6 +1,14 @@
+use Rattle.std.proofs.Common.{◌≡◌, Option, None}
+use Rattle.std.specs.Prelude.{IfSome}
+use Rattle.pam_compare.specs.declared.change.Change.{Change}
 use Rattle.pam_compare.specs.declared.change.Change.TheVariants.{Admits, Refuses, Tells}
+use Rattle.pam_compare.specs.declared.witness.Witness.{Witness}
+use Rattle.pam_compare.specs.Comparison.{IsShown, IsWitness}
+use Rattle.pam_compare.specs.inner.Nodes.{found_at}
+use Rattle.pam_compare.specs.inner.Turn.{first_of}
 use Rattle.pam_compare.specs.inner.Ways.{AreEnds}
 use Rattle.pam_compare.proofs.Agreeing.{shown}
+use Rattle.pam_compare.proofs.Preferring.{nearest}
 use Rattle.pam_compare.proofs.comparing.changes_of.Goals as goal
 
 pub witness_at-requires-clause-end : goal.witness_at-requires-clause-end
@@ -22,19 +30,20 @@ returns c old_allows new_allows partners told searched =
     let new = c.args.pair.now.new.now in
     let naming = c.args.pair.now.naming.now in
     let found = c.args.searched.now.found in
-    let rise_old = c.modules-old_modules.ensures.rise in
-    let rise_new = c.modules-new_modules.ensures.rise in
+    let ways = c.args.searched.now.nodes.ways.items in
+    let near = nearest old new naming ways found in
+    let Shown : (change : Change) (w : Option Witness) → IfSome w (IsWitness old_allows new_allows old new partners change) →
+    (w ≡ None → found_at found change ≡ None) → IsShown old_allows new_allows old new partners change w =
+    shown old_allows new_allows old new partners naming.names.items told.names naming.possible.items told.possible c.modules-old_modules.ensures.rise
+    c.modules-new_modules.ensures.rise (first_of naming.ranks) ways found searched in
     record {
-      admits = shown old_allows new_allows old new partners naming.names.items told.names naming.possible.items told.possible found searched rise_old rise_new
-          Admits found.admits (λ noted. noted) c.in_ok-admits.admits
-          (c.in_ok-admits.ensures.witness old_allows new_allows partners Admits told.names told.exact (λ k is. c.requires.ends Admits k is))
+      admits = Shown Admits c.in_ok-admits.admits
+          (c.in_ok-admits.ensures.witness old_allows new_allows partners Admits told (λ k is. c.requires.ends Admits k is) (λ k is. near Admits k searched is))
           c.in_ok-admits.ensures.none;
-      refuses = shown old_allows new_allows old new partners naming.names.items told.names naming.possible.items told.possible found searched rise_old rise_new
-          Refuses found.refuses (λ noted. noted) c.in_ok-refuses.refuses
-          (c.in_ok-refuses.ensures.witness old_allows new_allows partners Refuses told.names told.exact (λ k is. c.requires.ends Refuses k is))
-          c.in_ok-refuses.ensures.none;
-      tells = shown old_allows new_allows old new partners naming.names.items told.names naming.possible.items told.possible found searched rise_old rise_new
-          Tells found.tells (λ noted. noted) c.in_ok-tells.tells
-          (c.in_ok-tells.ensures.witness old_allows new_allows partners Tells told.names told.exact (λ k is. c.requires.ends Tells k is))
+      refuses = Shown Refuses c.in_ok-refuses.refuses
+          (c.in_ok-refuses.ensures.witness old_allows new_allows partners Refuses told (λ k is. c.requires.ends Refuses k is)
+          (λ k is. near Refuses k searched is)) c.in_ok-refuses.ensures.none;
+      tells = Shown Tells c.in_ok-tells.tells
+          (c.in_ok-tells.ensures.witness old_allows new_allows partners Tells told (λ k is. c.requires.ends Tells k is) (λ k is. near Tells k searched is))
           c.in_ok-tells.ensures.none;
     }

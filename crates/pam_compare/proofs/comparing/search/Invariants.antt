@@ -1,7 +1,8 @@
 use Rattle.std.proofs.Common.{◌≡◌, ◌<◌, ℕ, Some}
 use Rattle.std.specs.Prelude.{slice_get}
 use Rattle.pam_compare.specs.declared.situation.Situation.{Situation}
-use Rattle.pam_compare.specs.inner.Nodes.{AreNodes, IsBegun, IsVisited}
+use Rattle.pam_compare.specs.inner.Nodes.{AreEarlier, AreNodes, IsBegun, IsVisited}
+use Rattle.pam_compare.specs.inner.Turn.{first_of}
 use Rattle.pam_compare.specs.inner.Ways.{AreEnds, AreOrdered, AreReached, AreWalked}
 use Rattle.pam_compare.proofs.comparing.search.Given as goal
 
@@ -18,5 +19,6 @@ invariant-loop-index l =
       ends : AreEnds old new l.nodes l.found;
       begun : IsBegun old new l.nodes;
       visited : (k : ℕ) (s : Situation) → k < l.index → slice_get l.nodes.situations.keys k ≡ Some s →
-          IsVisited old new naming.names.items naming.possible.items l.nodes l.found s;
+          IsVisited old new naming.names.items (first_of naming.ranks) naming.possible.items l.nodes l.found k s;
+      earlier : AreEarlier l.found l.index;
     }

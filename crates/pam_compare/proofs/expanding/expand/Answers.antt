@@ -16,7 +16,8 @@ use Rattle.pam_compare.proofs.Growing.{held-kept, longer, met-kept, nodes-both, 
 use Rattle.pam_compare.proofs.Holding.{taken-out, where-low, where-passes}
 use Rattle.pam_compare.proofs.Possible.{in-common}
 use Rattle.pam_compare.proofs.Classes.{one-back, one-through}
-use Rattle.pam_compare.proofs.Stepping.{below-more, one-of}
+use Rattle.pam_compare.proofs.Stepping.{below-more, one-of, rising-more}
+use Rattle.pam_compare.proofs.Choosing.{first-narrow}
 use Rattle.pam_compare.proofs.Walking.{walk-kept}
 use Rattle.pam_compare.proofs.Reaching.{way-kept}
 use Rattle.pam_compare.proofs.expanding.expand.Goals as goal
@@ -32,7 +33,7 @@ loop-code-init c = record {
   nodes = c.requires.nodes;
   reached = c.requires.reached;
   walked = c.requires.walked;
-  ordered = record { unique = c.requires.ordered.unique; below = below-more c.args.nodes.now.ways.items c.args.fork.now.index c.requires.ordered.below };
+  ordered = record { unique = c.requires.ordered.unique; below = below-more c.args.nodes.now.ways.items c.args.fork.now.index c.requires.ordered.below; rising = c.requires.ordered.rising };
   apart = λ j w first at is. let less = c.requires.ordered.below j w first at in absurd (omega (arith, less, is));
   closed = λ x d low here member one. member;
   within = λ d h. h;
@@ -60,10 +61,13 @@ follow-requires-clause-step c =
     let parts : (d : ℕ) → is_in d c.intersection-class.result ≡ true → (is_in d c.class_of.result ≡ true) × (is_in d c.loop-code.left ≡ true) =
     λ d h. and_parts (is_in d c.class_of.result) (is_in d c.loop-code.left) (where-passes test d (listed d h)) in
     let possible = c.args.pair.now.naming.now.possible.items in
+    let here : is_in code c.intersection-class.result ≡ true =
+    ap (is_in code) c.intersection-class.ensures ∙ in-common c.class_of.result c.loop-code.left code low (c.class_of.ensures.own low) member in
     record {
       turn_is = c.requires.turn;
       name = name;
-      member = ap (is_in code) c.intersection-class.ensures ∙ in-common c.class_of.result c.loop-code.left code low (c.class_of.ensures.own low) member;
+      member = here;
+      usual = first-narrow c.loop-code.left c.intersection-class.result code (sym c.in-Some.ensures.first) (λ d h. (parts d h).1) here;
       low = λ d h. where-low test d (listed d h);
       within = λ d h. subst (λ (n : ℕ). is_in d (get_or possible n all_codes) ≡ true) (sym name)
           (c.codes_at-left.ensures.within d (c.loop-code.invariant.within d (parts d h).1));
@@ -104,6 +108,7 @@ loop-code-preserved c =
           | inl was ↦ inv.ordered.below j w first was
           | inr new ↦ let is = ap (λ (x : Way). x.parent) (sym new) in omega (arith, is)
         ];
+        rising = rising-more c.loop-code.nodes.ways.items c.follow.new.nodes.ways.items way step.more inv.ordered.rising inv.ordered.below;
       };
       apart = λ j w first at is d here member. elim (one-of c.loop-code.nodes.ways.items c.follow.new.nodes.ways.items way step.more j w at) [
         | inl was ↦

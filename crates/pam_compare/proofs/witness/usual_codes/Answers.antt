@@ -1,9 +1,10 @@
-use Rattle.std.proofs.Common.{◌≡◌, ◌<◌, ◌≤◌, ◌∙◌, ℕ, List, [], ◌∷◌, ◌++◌, ap, arith, get_or, inl, inr, length, subst, sym, true}
+use Rattle.std.proofs.Common.{◌≡◌, ◌<◌, ◌≤◌, ◌∙◌, ℕ, Some, List, [], ◌∷◌, ◌++◌, ap, arith, get_or, inl, inr, length, subst, sym, true}
 use Rattle.std.proofs.lemmas.Bool.{cases_lt, false≢true}
 use Rattle.std.proofs.lemmas.List.{get_or_append_left, get_or_past, get_or_push, length_push}
 use Rattle.pam_codes.specs.Code.{all_codes}
 use Rattle.pam_codes.specs.Set.{is_in}
-use Rattle.pam_compare.specs.inner.Naming.{IsPossible, by_code}
+use Rattle.pam_compare.specs.Usual.{first_usual}
+use Rattle.pam_compare.specs.inner.Naming.{AreUsual, IsPossible, by_code}
 use Rattle.pam_compare.proofs.Possible.{in-all}
 use Rattle.pam_compare.proofs.witness.usual_codes.Goals as goal
 
@@ -35,6 +36,15 @@ loop-name-preserved c =
               | inr least ↦ subst (λ (x : ℕ). x < 31) (sym (get_or_push codes code 0 n (omega (arith, most, least, inv.count)))) c.in-Some.ensures.low
             ]
           ]);
+      first = λ n below. subst (λ (l : List ℕ). first_usual (get_or possible n all_codes) ≡ Some (by_code l n)) (sym pushed)
+          (elim (cases_lt n name) [
+            | inl less ↦ inv.first n less ∙ ap (λ (x : ℕ). Some x) (sym (get_or_append_left codes (code ∷ []) 0 n (omega (arith, less, inv.count))))
+            | inr most ↦
+                let same : n ≡ name = omega arith in
+                let at : length codes ≡ n = omega (arith, inv.count, same) in
+                ap (λ (m : ℕ). first_usual (get_or possible m all_codes)) same
+                ∙ ap (λ (s : List ℕ). first_usual s) (sym is) ∙ sym c.in-Some.ensures.first ∙ ap (λ (x : ℕ). Some x) (sym (get_or_push codes code 0 n at))
+          ]);
       member = λ n below. subst (λ (l : List ℕ). is_in (by_code l n) (get_or possible n all_codes) ≡ true) (sym pushed)
           (elim (cases_lt n name) [
             | inl less ↦ subst (λ (x : ℕ). is_in x (get_or possible n all_codes) ≡ true)
@@ -62,3 +72,7 @@ returns-clause-some c n =
             subst (λ (s : List ℕ). is_in (by_code codes n) s ≡ true) (sym (get_or_past possible n all_codes past)) (in-all (by_code codes n) (inv.low n))
       ],
     )
+
+pub returns-clause-first : goal.returns-clause-first
+unfolding AreUsual
+returns-clause-first c n below = c.loop-name.invariant.first n (omega (arith, below, c.len-name-end.ensures, c.loop-name-test.false))

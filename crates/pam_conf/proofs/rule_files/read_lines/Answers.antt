@@ -11,4 +11,5 @@ loop-file-preserved c =
     record {
       rules = ap (λ results. map kept_view c.loop-file.file.rules.items ++ rules_among results) same ∙ c.loop-file.invariant.rules;
       faults = ap (λ results. c.loop-file.file.faults.items ++ faults_among results) same ∙ c.loop-file.invariant.faults;
+      by_kind = c.loop-file.invariant.by_kind;
     }

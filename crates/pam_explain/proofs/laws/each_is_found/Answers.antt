@@ -1,12 +1,14 @@
 use Rattle.std.proofs.Common.{refl}
+use Rattle.pam_explain.specs.Arguments.{argument_of_other_kind, bad_value as bad_value_of_arguments, longer_word, unknown_argument}
 use Rattle.pam_explain.specs.Explanations.{families}
 use Rattle.pam_explain.specs.Hosts.{caller_is_root, jump_into_include, jump_past_end, left_over, lets_anybody_in, lets_nobody_in, never_asked}
 use Rattle.pam_explain.specs.Hosts.{no_function, no_module, no_other, nothing_accepted, other_answers, too_large, unreachable_name}
+use Rattle.pam_explain.specs.Named.{failed_read, failed_write, no_such_service, unused_candidate}
 use Rattle.pam_explain.specs.OldTables.{blank_in_token, empty_separator, finish_minute, leading_blank, long_field, loopback, mask_digits}
 use Rattle.pam_explain.specs.OldTables.{no_line_feed_in_access_table, no_line_feed_in_time_table, odd_bytes, zero_mask}
 use Rattle.pam_explain.specs.Paths.{cursor_syntax, moment_syntax, not_least, moment_range, zone_rule, too_long, too_short}
 use Rattle.pam_explain.specs.Released.{backslash_blank, backslash_comment, capital_in_brackets, carriage_return, continued_over_blank, dropped_blank}
-use Rattle.pam_explain.specs.Released.{empty_module_name, ends_in_continuation, long_line}
+use Rattle.pam_explain.specs.Released.{empty_module_name, ends_in_continuation, included_from_vendor, long_line}
 use Rattle.pam_explain.specs.Rules.{bad_action, bad_control, bad_kind, bad_value, missing_field as missing_field_of_rules}
 use Rattle.pam_explain.specs.Rules.{nul_byte as nul_byte_of_rules, open_bracket, zero_jump}
 use Rattle.pam_explain.specs.Stacks.{bad_target, cycle, file_too_long, include_in_single_file, memory as memory_of_stacks, missing_target}
@@ -15,8 +17,8 @@ use Rattle.pam_explain.specs.Tables.{bad_accept, bad_code, bad_fact, bad_group, 
 use Rattle.pam_explain.specs.Tables.{memory as memory_of_tables, missing_field as missing_field_of_tables, netgroup, nul_byte as nul_byte_of_tables}
 use Rattle.pam_explain.specs.Tables.{table_too_long, two_wildcards, user_at_host}
 use Rattle.pam_explain.specs.Words.{both_ends, both_filters, candidate_form, code_name, format_name, kind_name, level_name, login}
-use Rattle.pam_explain.specs.Words.{memory as memory_of_words, moment, no_such_key, no_such_module, no_such_number, not_utf8, failed_read, release_form}
-use Rattle.pam_explain.specs.Words.{setting_form, source, failed_write}
+use Rattle.pam_explain.specs.Words.{memory as memory_of_words, moment, no_such_key, no_such_module, no_such_number, not_utf8, release_form}
+use Rattle.pam_explain.specs.Words.{setting_form, source}
 use Rattle.pam_explain.proofs.laws.each_is_found.Goals as goal
 
 pub returns : goal.returns
@@ -25,9 +27,12 @@ unfolding families caller_is_root jump_into_include jump_past_end left_over lets
     mask_digits no_line_feed_in_access_table no_line_feed_in_time_table odd_bytes zero_mask
     cursor_syntax moment_syntax not_least moment_range zone_rule too_long too_short
     backslash_blank backslash_comment capital_in_brackets carriage_return continued_over_blank dropped_blank empty_module_name ends_in_continuation
-    long_line bad_action bad_control bad_kind bad_value missing_field_of_rules nul_byte_of_rules open_bracket zero_jump bad_target cycle file_too_long
+    included_from_vendor long_line
+    bad_action bad_control bad_kind bad_value missing_field_of_rules nul_byte_of_rules open_bracket zero_jump bad_target cycle file_too_long
     include_in_single_file memory_of_stacks missing_target no_service too_deep too_many_followed too_many_modules too_many_states wrong_count
     bad_accept bad_code bad_fact bad_group bad_logic bad_mask bad_module bad_permission bad_times memory_of_tables missing_field_of_tables netgroup
     nul_byte_of_tables table_too_long two_wildcards user_at_host both_ends both_filters candidate_form code_name format_name kind_name level_name
     login memory_of_words moment no_such_key no_such_module no_such_number not_utf8 failed_read release_form setting_form source failed_write
+    no_such_service unused_candidate
+    argument_of_other_kind bad_value_of_arguments longer_word unknown_argument
 returns c = refl

@@ -4,7 +4,7 @@ use Rattle.pam_codes.specs.Action.{IsAction}
 use Rattle.pam_codes.proofs.ControlParts.{some_action}
 use Rattle.pam_codes.proofs.Overlay.{actions_after-default, actions_after-incomplete, actions_after-named}
 use Rattle.pam_released.proofs.Assembling.{is_nothing, is_something}
-use Rattle.pam_released.proofs.ControlReading.{all_bad, one_pair, told_fault, told_first, told_last}
+use Rattle.pam_released.proofs.ControlReading.{one_pair, told_fault, told_first, told_last}
 use Rattle.pam_released.proofs.control.bracket_control.Goals as goal
 
 pub loop-rest-init : goal.loop-rest-init
@@ -19,12 +19,9 @@ loop-rest-init c = record {
   };
 }
 
-pub of-requires-clause-named : goal.of-requires-clause-named
-of-requires-clause-named c = All-replicate (λ action. IfSome action IsAction) 31 None tt
-
 pub returns-in_default : goal.returns-in_default
 returns-in_default c =
-    c.of.ensures ∙ all_bad ∙ told_fault _ _ _ _ _ (is_something _ (sym c.is_empty.ensures ∙ c.loop-rest-test.true)) (sym c.in_default.ensures.value)
+    c.all_bad.ensures ∙ told_fault _ _ _ _ _ (is_something _ (sym c.is_empty.ensures ∙ c.loop-rest-test.true)) (sym c.in_default.ensures.value)
     c.loop-rest.invariant.left.same
 
 pub loop-rest-preserved-in-Named : goal.loop-rest-preserved-in-Named
@@ -64,4 +61,4 @@ loop-rest-preserved c = record {
 
 pub returns : goal.returns
 returns c =
-    rw (c.of-2.ensures, c.unwrap_or.ensures) (told_last _ _ _ _ (is_nothing _ (sym c.is_empty.ensures ∙ c.loop-rest-test.false)) c.loop-rest.invariant.left)
+    rw (c.of.ensures, c.unwrap_or.ensures) (told_last _ _ _ _ (is_nothing _ (sym c.is_empty.ensures ∙ c.loop-rest-test.false)) c.loop-rest.invariant.left)

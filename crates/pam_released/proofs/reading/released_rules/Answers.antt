@@ -1,7 +1,7 @@
-use Rattle.std.proofs.Common.{◌∙◌, List, Some, ap, map, refl, sym}
+use Rattle.std.proofs.Common.{◌∙◌, List, Some, ap, map, refl}
 use Rattle.pam_released.specs.inner.Numbered.{line_view}
 use Rattle.pam_released.specs.declared.assembly.LogicalLine.{LogicalLine}
-use Rattle.pam_released.proofs.ReadingSteps.{line_at, lines_refused, no_line, plain_refused, plain_rules, reading_at, rule_pushed, rule_refused}
+use Rattle.pam_released.proofs.ReadingSteps.{line_at, lines_refused, no_line, plain_refused, plain_rules, reading_at, rule_pushed}
 use Rattle.pam_released.proofs.ReadingSteps.{rules_first, rules_read}
 use Rattle.pam_released.proofs.reading.released_rules.Goals as goal
 
@@ -15,22 +15,11 @@ loop-line-init c =
     rules_first c.args.release c.args.form c.args.source.bytes.now _ _ c.new-rules.ensures.items
     (ap (λ (ls : List LogicalLine). Some (map line_view ls)) c.deref-line-items.ensures.value ∙ rw c.in-Some.is at c.in_ok-lines.ensures)
 
-pub returns-in_default-2-clause-rules : goal.returns-in_default-2-clause-rules
-returns-in_default-2-clause-rules c =
-    rule_refused c.args.form _ (line_view c.line-item.result) _ _ _
-    (line_at c.deref-line-items.result.now c.loop-line.line-index c.line-item.result c.loop-line-test.true c.line-item.is)
-    (sym (reading_at c.args.form _ _ _ _ _ (rw c.in_default-2.is at c.in_ok-reading.ensures) c.iter.ensures c.in_ok-texts.ensures c.deref.ensures.value))
-    c.loop-line.invariant
-
-pub returns-in_default-2-clause-readings : goal.returns-in_default-2-clause-readings
-returns-in_default-2-clause-readings c =
-    plain_refused c.args.release c.args.form c.args.source.bytes.now (returns-in_default-2-clause-rules c)
-
 pub loop-line-preserved : goal.loop-line-preserved
 loop-line-preserved c =
     rule_pushed c.args.form _ _ _ (line_view c.line-item.result) _ _ _ c.in_ok-push.ensures.items refl
     (line_at c.deref-line-items.result.now c.loop-line.line-index c.line-item.result c.loop-line-test.true c.line-item.is)
-    (reading_at c.args.form _ _ _ _ _ (rw c.in-Some-2.is at c.in_ok-reading.ensures) c.iter.ensures c.in_ok-texts.ensures c.deref.ensures.value)
+    (reading_at c.args.form _ _ _ _ _ c.in_ok-reading.ensures c.iter.ensures c.in_ok-texts.ensures c.deref.ensures.value)
     c.loop-line.invariant
 
 pub returns-clause-rules : goal.returns-clause-rules

@@ -1,10 +1,9 @@
-use Rattle.std.proofs.Common.{◌≡◌, drop, map}
+use Rattle.std.proofs.Common.{◌≡◌, ◌++◌, Some, drop, map}
 use Rattle.pam_released.specs.inner.Numbered.{line_view}
-use Rattle.pam_released.specs.Readings.{numbered_readings, numbered_rules, numbered_view}
-use Rattle.pam_released.proofs.ReadingSteps.{after_rules}
+use Rattle.pam_released.specs.Readings.{numbered_reading, numbered_rules, numbered_view}
 use Rattle.pam_released.proofs.reading.released_rules.Given as goal
 
 abbrev pub invariant-loop-line : goal.invariant-loop-line
 invariant-loop-line l =
-    after_rules (map numbered_view l.rules.items) (numbered_readings l.form (drop l.line-index (map line_view l.line-items)))
+    Some (map numbered_view l.rules.items ++ map (numbered_reading l.form) (drop l.line-index (map line_view l.line-items)))
     ≡ numbered_rules l.fn.release l.form l.source.bytes.now

@@ -11,3 +11,4 @@ loop-position-preserved c =
     c.loop-position.invariant (unwrapped c.bytes.result _ _ _ c.unwrap_or-bytes.ensures c.bytes.ensures refl)
     (c.in_ok-read_file.ensures.rules ∙ ap (λ form. good_rules form c.unwrap_or-bytes.result.now) c.form.ensures)
     (c.in_ok-read_file.ensures.faults ∙ ap (λ form. own_faults form c.unwrap_or-bytes.result.now) c.form.ensures)
+    c.in_ok-read_file.ensures.by_kind

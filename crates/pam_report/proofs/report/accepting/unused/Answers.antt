@@ -1,8 +1,8 @@
 use Rattle.std.proofs.Common.{◌∙◌, ◌++◌, ◌∷◌, [], ℕ, List, ap, not, sym}
 use Rattle.std.specs.List.{list_any}
 use Rattle.std.specs.Str.{bytes_eq}
-use Rattle.pam_accept.specs.Lines.{Accepted}
-use Rattle.pam_accept.specs.Views.{line_view}
+use Rattle.pam_findings.specs.accepted.Lines.{Accepted}
+use Rattle.pam_findings.specs.accepted.Views.{line_view}
 use Rattle.pam_report.proofs.Kept.{number-with, number-without}
 use Rattle.pam_report.proofs.report.accepting.unused.Goals as goal
 use Rattle.pam_report.proofs.report.accepting.unused.Goals.{then-not-has+in_ok-push, else-not-has}

@@ -1,6 +1,6 @@
 -- the lines so far that have none of the keys
 use Rattle.std.proofs.Common.{◌≡◌, map, take}
-use Rattle.pam_accept.specs.Views.{line_view}
+use Rattle.pam_findings.specs.accepted.Views.{line_view}
 use Rattle.pam_report.specs.Accepting.{lines_without}
 use Rattle.pam_report.proofs.report.accepting.unused.Given as goal
 

@@ -1,8 +1,8 @@
 use Rattle.std.proofs.Common.{subst}
 use Rattle.std.specs.Prelude.{IfErr}
-use Rattle.pam_known.specs.Knowledge.{knowledge}
-use Rattle.pam_known.specs.Reads.{tables_read}
-use Rattle.pam_known.specs.Tables.{TablesText}
+use Rattle.pam_facts.specs.known.Knowledge.{knowledge}
+use Rattle.pam_facts.specs.known.Reads.{tables_read}
+use Rattle.pam_facts.specs.known.Tables.{TablesText}
 use Rattle.pam_tables.specs.Login.{login_view}
 use Rattle.pam_report.specs.inner.Known.{FindsKnown, IsFaultOfRead}
 use Rattle.pam_report.specs.KnownStack.{known_items}

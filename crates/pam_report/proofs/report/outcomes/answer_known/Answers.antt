@@ -1,6 +1,6 @@
 use Rattle.std.proofs.Common.{Ok, ap, inr}
 use Rattle.pam_conf.specs.Stack.{module_count}
-use Rattle.pam_known.proofs.Listings.{same_listing}
+use Rattle.pam_facts.proofs.KnownProofs.Listings.{same_listing}
 use Rattle.pam_paths.specs.Known.{may_answer}
 use Rattle.pam_paths.specs.Paths.{path_through}
 use Rattle.pam_report.proofs.OutcomeLists.{outcomes_value-is}

@@ -11,4 +11,4 @@ returns c =
     let kind = c.args.kind in
     ap (map numbered_view)
     (filter_same _ (λ rule. concerns service kind (reading_view rule.reading)) _ (λ rule b f h. search rules) _ _ c.retain.ensures.filtered)
-    ∙ filter-viewed numbered_view (λ rule. concerns service kind rule.1) _
+    ∙ filter-viewed numbered_view (λ rule. concerns service kind rule.1) c.args.rules.now.items

@@ -1,5 +1,5 @@
 use Rattle.std.proofs.Common.{◌≡◌, ◌≤◌, arith, length, sym}
-use Rattle.pam_host.proofs.FileNames.{seen-of}
+use Rattle.pam_conf.proofs.ServiceSteps.{seen-of}
 use Rattle.pam_report.proofs.ReleasedRules.{files_before, here, later, nowhere}
 use Rattle.pam_report.proofs.report.released.position.Goals as goal
 

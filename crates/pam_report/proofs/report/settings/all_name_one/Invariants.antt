@@ -3,7 +3,7 @@ use Rattle.std.proofs.Common.{◌≡◌, drop, map}
 use Rattle.std.specs.List.{list_all}
 use Rattle.pam_report.specs.Settings.{names_one}
 use Rattle.pam_report.proofs.report.settings.all_name_one.Given as goal
-use Rattle.pam_settings.specs.Settings.{setting_view}
+use Rattle.pam_facts.specs.settings.Settings.{setting_view}
 
 abbrev pub invariant-loop-setting : goal.invariant-loop-setting
 invariant-loop-setting l =

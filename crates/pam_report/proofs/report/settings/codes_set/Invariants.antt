@@ -4,7 +4,7 @@ use Rattle.std.specs.Prelude.{IfSome}
 use Rattle.std.specs.Option.{option_or}
 use Rattle.pam_conf.specs.ItemsOf.{module_text}
 use Rattle.pam_report.specs.Settings.{codes_set}
-use Rattle.pam_settings.specs.Settings.{setting_view}
+use Rattle.pam_facts.specs.settings.Settings.{setting_view}
 use Rattle.pam_report.proofs.report.settings.codes_set.Given as goal
 
 abbrev pub invariant-loop-setting : goal.invariant-loop-setting

@@ -1,6 +1,6 @@
 use Rattle.std.proofs.Common.{◌<◌, ◌∙◌, sym, arith}
 use Rattle.pam_conf.specs.Stack.{module_count}
-use Rattle.pam_known.proofs.FaultSteps.{any_next}
+use Rattle.pam_facts.proofs.KnownProofs.FaultSteps.{any_next}
 use Rattle.pam_report.proofs.report.settings.names_one.Goals as goal
 
 pub loop-index-preserved : goal.loop-index-preserved

@@ -3,7 +3,7 @@ use Rattle.pam_conf.specs.Stack.{module_count}
 use Rattle.pam_paths.specs.Known.{may_answer}
 use Rattle.pam_facts.proofs.Replaced.{replaced-next}
 use Rattle.pam_report.specs.Settings.{set_at}
-use Rattle.pam_settings.specs.Settings.{setting_view}
+use Rattle.pam_facts.specs.settings.Settings.{setting_view}
 use Rattle.pam_report.proofs.report.settings.set_codes.Goals as goal
 
 pub loop-index-preserved : goal.loop-index-preserved

@@ -4,7 +4,7 @@ use Rattle.pam_facts.specs.Answers.{Allows}
 use Rattle.pam_facts.proofs.Replaced.{So}
 use Rattle.pam_paths.specs.Known.{may_answer}
 use Rattle.pam_report.specs.Settings.{set_at}
-use Rattle.pam_settings.specs.Settings.{setting_view}
+use Rattle.pam_facts.specs.settings.Settings.{setting_view}
 use Rattle.pam_report.proofs.report.settings.set_codes.Given as goal
 
 -- the modules so far have the codes that are set for them, and the others what they had

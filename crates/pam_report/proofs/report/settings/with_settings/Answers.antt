@@ -1,7 +1,7 @@
 use Rattle.std.proofs.Common.{◌∙◌, map, sym}
 use Rattle.std.specs.Option.{option_map}
 use Rattle.pam_report.proofs.SettingSteps.{not-named, settled}
-use Rattle.pam_settings.specs.Settings.{setting_view}
+use Rattle.pam_facts.specs.settings.Settings.{setting_view}
 use Rattle.pam_report.proofs.report.settings.with_settings.Goals as goal
 
 pub returns-then-not-all_name_one-clause-stack : goal.returns-then-not-all_name_one-clause-stack

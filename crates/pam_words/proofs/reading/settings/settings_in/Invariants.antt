@@ -1,6 +1,6 @@
 -- the settings so far, then those of the remaining texts
 use Rattle.std.proofs.Common.{◌≡◌, drop, map}
-use Rattle.pam_settings.specs.Settings.{setting_view}
+use Rattle.pam_facts.specs.settings.Settings.{setting_view}
 use Rattle.pam_words.specs.Settings.{settings_in}
 use Rattle.pam_words.proofs.SettingSteps.{onto}
 use Rattle.pam_words.proofs.reading.settings.settings_in.Given as goal

@@ -1,7 +1,0 @@
-use Rattle.pam_accept.proofs.KeySteps.{looked_up}
-use Rattle.pam_accept.proofs.file.AcceptFile.accepts.Goals as goal
-
-pub returns : goal.returns
-returns c =
-    looked_up (λ key. key.items) c.args.key.now c.self.inside.keys.keys c.self.inside.lines.items c.args.self.now _
-    c.self.invariant c.self.view_is c.contains.ensures

@@ -1,7 +1,0 @@
--- the keys of the lines so far
-use Rattle.std.proofs.Common.{map, take}
-use Rattle.pam_accept.specs.inner.Views.{HasKeys}
-use Rattle.pam_accept.proofs.file.keys_of.Given as goal
-
-abbrev pub invariant-loop-line : goal.invariant-loop-line
-invariant-loop-line l = HasKeys (map (λ key. key.items) l.keys.keys) (take l.line-index l.lines)

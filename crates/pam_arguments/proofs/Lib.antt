@@ -1,0 +1,4 @@
+pub mod CutSteps
+pub mod LawSteps
+pub mod TableSteps
+pub mod ValueSteps

@@ -1,0 +1,9 @@
+pub mod Cuts
+pub mod Laws
+pub mod Modules
+pub mod Rows
+pub mod Table
+pub mod Values
+pub mod Verdicts
+pub mod Views
+pub mod inner

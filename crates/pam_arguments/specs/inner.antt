@@ -1,0 +1,3 @@
+-- What no public contract cites.
+pub mod Cuts
+pub mod Table

@@ -1,6 +1,0 @@
-use Rattle.std.proofs.Common.{arith}
-use Rattle.pam_check.proofs.MarkLists.{set-mark}
-use Rattle.pam_check.proofs.asked.mark.Goals as goal
-
-pub returns : goal.returns
-returns c n from = set-mark c.args.marks.now c.args.number n (omega (arith, c.told-marks)) c.requires.first c.requires.last from

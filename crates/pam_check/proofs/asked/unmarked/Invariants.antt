@@ -1,8 +1,0 @@
--- the modules so far that are not marked
-use Rattle.std.proofs.Common.{◌≡◌, filter, not}
-use Rattle.std.specs.List.{range_with_len}
-use Rattle.pam_check.specs.inner.Marks.{mark_of}
-use Rattle.pam_check.proofs.asked.unmarked.Given as goal
-
-abbrev pub invariant-loop-index : goal.invariant-loop-index
-invariant-loop-index l = l.numbers.items ≡ filter (λ number. not (mark_of l.marks number)) (range_with_len 1 l.index)

@@ -1,0 +1,16 @@
+use Rattle.std.proofs.Common.{◌&&◌, ap₂, map, subst, sym}
+use Rattle.std.proofs.lemmas.Bool.{eq-eqb}
+use Rattle.pam_words.specs.Wanted.{candidate_view}
+use Rattle.pam_cli.proofs.Sizes.{read_fits}
+use Rattle.pam_cli.specs.Sources.{IsRead}
+use Rattle.pam_cli.proofs.reading.check_inputs.Goals as goal
+
+pub returns : goal.returns
+returns g c =
+    let told = g.S.System.told c.args.system.now in
+    let found = c.in_ok-found.found in
+    let given = c.in_ok-given.ensures in
+    let candidates = map candidate_view c.args.candidates.now in
+    let fits = read_fits told candidates c.args.source found.files found.paths found.vendor_start c.in_ok-found.ensures in
+    let read = subst (IsRead told candidates c.args.source found.files found.paths) (sym given.0) c.in_ok-found.ensures in
+    λ services fail_on. (ap₂ ◌&&◌ (eq-eqb _ _ fits) given.1, (read, given.2, given.3, given.4))

@@ -1,0 +1,10 @@
+pub mod Columns
+pub mod Controls
+pub mod Labels
+pub mod Lanes
+pub mod Noted
+pub mod Notes
+pub mod Orders
+pub mod Ranges
+pub mod Rooms
+pub mod Spans

@@ -1,0 +1,10 @@
+pub mod Columns
+pub mod Labels
+pub mod Lanes
+pub mod Laws
+pub mod Layouts
+pub mod Notes
+pub mod Picture
+pub mod Places
+pub mod Rows
+pub mod inner

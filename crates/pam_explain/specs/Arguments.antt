@@ -1,0 +1,88 @@
+-- Findings of the arguments of rules.
+use Rattle.std.specs.Prelude.{List, [], ◌∷◌, ◌++◌, codes}
+use Rattle.pam_explain.specs.Explanation.{Explanation}
+use Rattle.pam_explain.specs.declared.explanation.Level.TheVariants.{Note, Warning}
+
+unfoldable pub unknown_argument : Explanation
+unknown_argument =
+    record {
+      number = codes "S15";
+      name = codes "UnknownArgument";
+      level = Warning;
+      meaning =
+          codes "A rule has an argument that its module does not know. Most modules go on\n"
+          ++ codes "without it, so what it was to do is not done: a misspelled option of a\n"
+          ++ codes "security module has no effect, and nobody sees it. Some modules fail at each\n"
+          ++ codes "call. It is a note where the module ignores the word and writes no log.";
+      example =
+          codes "# login\n"
+          ++ codes "auth required pam_unix.so nulok";
+      linux_pam =
+          codes "1.5.2 and 1.7.0 leave arguments to the modules; what each\n"
+          ++ codes "does with a word that it does not know was seen of it.";
+      mending =
+          codes "correct the word. Where it is the kind or the module of a\n"
+          ++ codes "rule, a line feed is missing before that rule.";
+    }
+
+unfoldable pub longer_word : Explanation
+longer_word =
+    record {
+      number = codes "S16";
+      name = codes "LongerWord";
+      level = Warning;
+      meaning =
+          codes "A rule has a word that only begins as an argument of its module. The module\n"
+          ++ codes "takes it for that argument, but libpam, which reads some of these words for\n"
+          ++ codes "the module, does not: pam_unix then asks for a password a second time.";
+      example =
+          codes "# passwd\n"
+          ++ codes "password required pam_unix.so use_authtoken";
+      linux_pam =
+          codes "1.5.2 and 1.7.0 compare no more than the beginning in\n"
+          ++ codes "pam_unix and some others, and whole words in libpam.";
+      mending = codes "write the argument as the manual page of the module names it.";
+    }
+
+unfoldable pub argument_of_other_kind : Explanation
+argument_of_other_kind =
+    record {
+      number = codes "S17";
+      name = codes "ArgumentOfOtherKind";
+      level = Note;
+      meaning =
+          codes "A rule has an argument that its module reads in rules of another kind alone,\n"
+          ++ codes "so it does nothing here. Some modules write that to the log.";
+      example =
+          codes "# login\n"
+          ++ codes "auth required pam_unix.so minlen=8";
+      linux_pam =
+          codes "1.5.2 and 1.7.0 leave arguments to the modules; in which\n"
+          ++ codes "kinds each of them reads an argument was seen of it.";
+      mending = codes "remove it, or write it in the rule of the kind that reads it.";
+    }
+
+unfoldable pub bad_value : Explanation
+bad_value =
+    record {
+      number = codes "S18";
+      name = codes "BadValue";
+      level = Warning;
+      meaning =
+          codes "The value of an argument is none that its module can use: it is no number,\n"
+          ++ codes "or none of the words that the module knows. Most modules then keep what they\n"
+          ++ codes "do without the argument, so a limit that was meant is not there.";
+      example =
+          codes "# login\n"
+          ++ codes "auth required pam_faillock.so preauth deny=three\n"
+          ++ codes "auth required pam_unix.so\n"
+          ++ codes "auth [default=die] pam_faillock.so authfail deny=three";
+      linux_pam =
+          codes "1.5.2 and 1.7.0 leave arguments to the modules. Many of\n"
+          ++ codes "these take the digits at the front of a value and leave the rest.";
+      mending = codes "write a value as the manual page of the module names it.";
+    }
+
+-- THE ROWS, in the order of their numbers
+abbrev pub of_arguments : List Explanation
+of_arguments = unknown_argument ∷ longer_word ∷ argument_of_other_kind ∷ bad_value ∷ []

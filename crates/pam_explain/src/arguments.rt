@@ -1,0 +1,118 @@
+//! Findings of the arguments of rules.
+
+ghost use Rattle.std.specs.Prelude.{◌≡◌};
+ghost use Rattle.std.specs.List.{slice_get};
+ghost use Rattle.std.specs.Option.{option_map};
+ghost use Rattle.pam_explain.specs.Arguments as spec;
+ghost use Rattle.pam_explain.specs.Views.{explanation_view};
+
+use crate::explanation::{Explanation, Level};
+
+#[tactic(auto, unfolding(crate::specs::Arguments::unknown_argument))]
+fn unknown_argument() -> Explanation
+    ensures { explanation_view result ≡ spec.unknown_argument }
+{
+    Explanation {
+        number: "S15",
+        name: "UnknownArgument",
+        level: Level::Warning,
+        meaning: concat!(
+            "A rule has an argument that its module does not know. Most modules go on\n",
+            "without it, so what it was to do is not done: a misspelled option of a\n",
+            "security module has no effect, and nobody sees it. Some modules fail at each\n",
+            "call. It is a note where the module ignores the word and writes no log."
+        ),
+        example: concat!("# login\n", "auth required pam_unix.so nulok"),
+        linux_pam: concat!(
+            "1.5.2 and 1.7.0 leave arguments to the modules; what each\n",
+            "does with a word that it does not know was seen of it."
+        ),
+        mending: concat!(
+            "correct the word. Where it is the kind or the module of a\n",
+            "rule, a line feed is missing before that rule."
+        ),
+    }
+}
+
+#[tactic(auto, unfolding(crate::specs::Arguments::longer_word))]
+fn longer_word() -> Explanation
+    ensures { explanation_view result ≡ spec.longer_word }
+{
+    Explanation {
+        number: "S16",
+        name: "LongerWord",
+        level: Level::Warning,
+        meaning: concat!(
+            "A rule has a word that only begins as an argument of its module. The module\n",
+            "takes it for that argument, but libpam, which reads some of these words for\n",
+            "the module, does not: pam_unix then asks for a password a second time."
+        ),
+        example: concat!("# passwd\n", "password required pam_unix.so use_authtoken"),
+        linux_pam: concat!(
+            "1.5.2 and 1.7.0 compare no more than the beginning in\n",
+            "pam_unix and some others, and whole words in libpam."
+        ),
+        mending: "write the argument as the manual page of the module names it.",
+    }
+}
+
+#[tactic(auto, unfolding(crate::specs::Arguments::argument_of_other_kind))]
+fn argument_of_other_kind() -> Explanation
+    ensures { explanation_view result ≡ spec.argument_of_other_kind }
+{
+    Explanation {
+        number: "S17",
+        name: "ArgumentOfOtherKind",
+        level: Level::Note,
+        meaning: concat!(
+            "A rule has an argument that its module reads in rules of another kind alone,\n",
+            "so it does nothing here. Some modules write that to the log."
+        ),
+        example: concat!("# login\n", "auth required pam_unix.so minlen=8"),
+        linux_pam: concat!(
+            "1.5.2 and 1.7.0 leave arguments to the modules; in which\n",
+            "kinds each of them reads an argument was seen of it."
+        ),
+        mending: "remove it, or write it in the rule of the kind that reads it.",
+    }
+}
+
+#[tactic(auto, unfolding(crate::specs::Arguments::bad_value))]
+fn bad_value() -> Explanation
+    ensures { explanation_view result ≡ spec.bad_value }
+{
+    Explanation {
+        number: "S18",
+        name: "BadValue",
+        level: Level::Warning,
+        meaning: concat!(
+            "The value of an argument is none that its module can use: it is no number,\n",
+            "or none of the words that the module knows. Most modules then keep what they\n",
+            "do without the argument, so a limit that was meant is not there."
+        ),
+        example: concat!(
+            "# login\n",
+            "auth required pam_faillock.so preauth deny=three\n",
+            "auth required pam_unix.so\n",
+            "auth [default=die] pam_faillock.so authfail deny=three"
+        ),
+        linux_pam: concat!(
+            "1.5.2 and 1.7.0 leave arguments to the modules. Many of\n",
+            "these take the digits at the front of a value and leave the rest."
+        ),
+        mending: "write a value as the manual page of the module names it.",
+    }
+}
+
+/// Returns the explanation at this index, or `None` past the last one. They are in the order of their numbers.
+pub(crate) fn of_arguments(row: usize) -> Option<Explanation>
+    ensures { option_map explanation_view result ≡ slice_get spec.of_arguments row }
+{
+    Some(match row {
+        0 => unknown_argument(),
+        1 => longer_word(),
+        2 => argument_of_other_kind(),
+        3 => bad_value(),
+        _ => return None,
+    })
+}

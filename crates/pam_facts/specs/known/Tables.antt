@@ -1,0 +1,31 @@
+-- What tells the codes of modules: access.conf(5), time.conf(5), group(5), and which modules are there.
+use Rattle.std.specs.Prelude.{ℕ, List, Option}
+use Rattle.std.specs.Option.{option_map}
+use Rattle.jiff.specs.Types.{DateTime}
+use Rattle.pam_facts.specs.declared.known.tables.Tables.{Tables}
+use Rattle.pam_facts.specs.declared.known.tables.TimedTable.{TimedTable}
+
+-- a time table, and the moment of the login
+pub record TimedText : Type 0 where
+  pub bytes : List ℕ
+  pub moment : DateTime
+
+-- the files that are given, and the paths at which a module is there, if that is known
+pub record TablesText : Type 0 where
+  pub there : Option (List (List ℕ))
+  pub groups : Option (List ℕ)
+  pub access : Option (List ℕ)
+  pub time : Option TimedText
+  pub returns : Option (List ℕ)
+
+abbrev pub timed_view : TimedTable → TimedText
+timed_view t = record { bytes = t.bytes.now; moment = t.moment }
+
+abbrev pub tables_view : Tables → TablesText
+tables_view t = record {
+  there = option_map (λ p. p.now) t.there;
+  groups = option_map (λ b. b.now) t.groups;
+  access = option_map (λ b. b.now) t.access;
+  time = option_map timed_view t.time;
+  returns = option_map (λ b. b.now) t.returns;
+}

@@ -1,0 +1,14 @@
+//! The codes that the modules of a stack may return for a login, as far as they are known.
+//! Access and time tables give the codes of the modules that read them, and a returns file the codes of the others.
+#![tactic(auto)]
+
+mod answers;
+mod error;
+mod knowledge;
+pub mod laws;
+mod tables;
+
+pub use answers::{is_access_reader, is_time_reader, name_of_path};
+pub use error::KnownError;
+pub use knowledge::known_answers;
+pub use tables::{Tables, TimedTable};

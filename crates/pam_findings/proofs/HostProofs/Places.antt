@@ -1,0 +1,333 @@
+-- The places of problems: their order, and that two problems have two places.
+use Rattle.std.proofs.Common.{◌≡◌, ℕ, ◌+◌, ◌-◌, ◌≤◌, arith, cond, nat_lt, if◌then◌else◌, Bool, true, false, [], ◌∷◌, refl, sym, ◌∙◌, ap, subst, inl, inr}
+use Rattle.std.proofs.Common.{Option, Some, None, slice_index_or, IfSome, nat_cmp}
+use Rattle.std.specs.BTreeMap.{Updates, get, is_at}
+use Rattle.std.specs.Cmp.{IsTotalOrder}
+use Rattle.std.specs.Cmp.Lexicographic.{options_total}
+use Rattle.std.specs.Option.{option_cmp}
+use Rattle.std.specs.Ordering.{is_eq, ordering_then}
+use Rattle.std.specs.declared.cmp.Ordering.{Ordering}
+use Rattle.std.proofs.lemmas.Bool.{cases_Bool, false≢true}
+use Rattle.std.proofs.lemmas.Cmp.{nat_cmp_total, on_total, then_total, tied_itself}
+use Rattle.std.proofs.lemmas.Map.Lookups.{CmpEqualImpliesEq, exact_pairs, exact_unsigned}
+use Rattle.std.proofs.lemmas.Map.Views.{tells_apart}
+use Rattle.pam_arguments.specs.declared.verdict.Reaction.TheVariants.{Fails, Ignores, Logs}
+use Rattle.pam_codes.specs.declared.error.ControlError.TheVariants.{BadControl, BadValue, BadAction, ZeroJump, OpenBracket}
+use Rattle.pam_conf.specs.declared.error.FaultKind.{FaultKind}
+use Rattle.pam_conf.specs.declared.error.FaultKind.TheVariants as faults
+use Rattle.pam_conf.specs.declared.rule.Kind.{Kind}
+use Rattle.pam_conf.specs.declared.rule.Kind.TheVariants.{Auth, Account, Password, Session}
+use Rattle.pam_released.specs.declared.difference.Difference.{Difference}
+use Rattle.pam_released.specs.declared.difference.Difference.TheVariants.{CarriageReturn, ContinuedOverBlank, BackslashBlank, BackslashComment}
+use Rattle.pam_released.specs.declared.difference.Difference.TheVariants.{EndsInContinuation, CapitalInBrackets, LongLine, EmptyModuleName, DroppedBlank}
+use Rattle.pam_released.specs.Findings.{number_of}
+use Rattle.pam_findings.specs.host.Problems.{compare_places, kind_of, number_of_kind, place_of, rank_of, rank_of_argument, rank_of_fault}
+use Rattle.pam_findings.specs.host.Problems.{reaction_of, service_of}
+use Rattle.pam_findings.specs.host.inner.Table.{Puts, Removes, Table, finding_at}
+use Rattle.pam_findings.specs.declared.host.problem.ArgumentProblem.{ArgumentProblem}
+use Rattle.pam_findings.specs.declared.host.problem.ArgumentProblem.TheVariants as arguments
+use Rattle.pam_findings.specs.declared.host.problem.Place.{Place}
+use Rattle.pam_findings.specs.declared.host.problem.Problem.{Problem}
+use Rattle.pam_findings.specs.declared.host.problem.Problem.TheVariants as problems
+use Rattle.pam_findings.specs.declared.host.problem.Spot.{Spot}
+use Rattle.pam_findings.specs.declared.host.report.Finding.{Finding}
+
+-- THE NUMBER OF A DIFFERENCE
+
+pub number_small : (difference : Difference) → number_of difference ≤ 9
+unfolding number_of
+number_small CarriageReturn = omega arith
+number_small ContinuedOverBlank = omega arith
+number_small BackslashBlank = omega arith
+number_small BackslashComment = omega arith
+number_small EndsInContinuation = omega arith
+number_small CapitalInBrackets = omega arith
+number_small LongLine = omega arith
+number_small EmptyModuleName = omega arith
+number_small DroppedBlank = omega arith
+
+-- FROM A PLACE TO ITS PROBLEM
+
+abbrev kind_numbered : ℕ → Kind
+kind_numbered n = slice_index_or (Auth ∷ Account ∷ Password ∷ Session ∷ []) n Auth
+
+abbrev fault_numbered : ℕ → FaultKind
+fault_numbered n = slice_index_or (faults.NulByte ∷ faults.NulByte ∷ faults.MissingField ∷ faults.BadKind ∷ (faults.Control BadControl)
+    ∷ (faults.Control BadValue) ∷ (faults.Control BadAction) ∷ (faults.Control ZeroJump) ∷ (faults.Control OpenBracket) ∷ faults.MissingTarget
+    ∷ faults.BadTarget ∷ faults.Cycle ∷ faults.TooDeep ∷ faults.TooManyModules ∷ faults.IncludeInSingleFile ∷ faults.NoService ∷ faults.FileTooLong
+    ∷ faults.Memory ∷ faults.TooManyFollowed ∷ []) n faults.NulByte
+
+abbrev difference_numbered : ℕ → Difference
+difference_numbered n = slice_index_or (CarriageReturn ∷ CarriageReturn ∷ ContinuedOverBlank ∷ BackslashBlank ∷ BackslashComment ∷ EndsInContinuation
+    ∷ CapitalInBrackets ∷ LongLine ∷ EmptyModuleName ∷ DroppedBlank ∷ []) n CarriageReturn
+
+abbrev wrong_numbered : ℕ → ℕ → ArgumentProblem
+wrong_numbered n reaction =
+    slice_index_or (arguments.Unknown (slice_index_or (Ignores ∷ Logs ∷ Fails ∷ []) reaction Ignores) ∷ arguments.Longer ∷ arguments.OtherKind ∷ []) n
+    arguments.BadValue
+
+abbrev other_numbered : ℕ → ℕ → ℕ → Problem
+other_numbered n service kind =
+    if nat_lt n 1 then problems.IncludedFromVendor (nat_lt 0 kind)
+    else if nat_lt n 6 then problems.EmptySeparator
+    else if nat_lt n 12 then problems.LetsNobodyIn service (kind_numbered kind)
+    else if nat_lt n 13 then problems.LetsAnybodyIn service
+    else if nat_lt n 14 then problems.NeverAsked
+    else if nat_lt n 15 then problems.JumpPastEnd
+    else if nat_lt n 16 then problems.NoModule (nat_lt 0 kind)
+    else if nat_lt n 17 then problems.NoOther
+    else if nat_lt n 18 then problems.UnreachableName
+    else if nat_lt n 20 then problems.TooLarge service (kind_numbered kind)
+    else if nat_lt n 21 then problems.OtherAnswers service (kind_numbered kind)
+    else if nat_lt n 22 then problems.LeftOver
+    else if nat_lt n 23 then problems.JumpIntoInclude
+    else if nat_lt n 24 then problems.NoFunction
+    else if nat_lt n 25 then problems.CallerIsRoot
+    else problems.Argument service (wrong_numbered (n - 25) kind)
+
+-- the problem with this rank, service and kind
+problem_of : ℕ → ℕ → ℕ → Problem
+problem_of rank service kind =
+    if nat_lt rank 20 then problems.Fault (fault_numbered rank)
+    else if nat_lt rank 40 then problems.Walk (fault_numbered (rank - 20))
+    else if nat_lt rank 50 then problems.Released (difference_numbered (rank - 40))
+    else other_numbered (rank - 50) service kind
+
+of_fault : (fault : FaultKind) → problem_of (rank_of_fault fault) 0 0 ≡ problems.Fault fault
+unfolding problem_of
+of_fault faults.NulByte = refl
+of_fault faults.MissingField = refl
+of_fault faults.BadKind = refl
+of_fault (faults.Control BadControl) = refl
+of_fault (faults.Control BadValue) = refl
+of_fault (faults.Control BadAction) = refl
+of_fault (faults.Control ZeroJump) = refl
+of_fault (faults.Control OpenBracket) = refl
+of_fault faults.MissingTarget = refl
+of_fault faults.BadTarget = refl
+of_fault faults.Cycle = refl
+of_fault faults.TooDeep = refl
+of_fault faults.TooManyModules = refl
+of_fault faults.IncludeInSingleFile = refl
+of_fault faults.NoService = refl
+of_fault faults.FileTooLong = refl
+of_fault faults.Memory = refl
+of_fault faults.TooManyFollowed = refl
+
+of_walk : (fault : FaultKind) → problem_of (20 + rank_of_fault fault) 0 0 ≡ problems.Walk fault
+unfolding problem_of
+of_walk faults.NulByte = refl
+of_walk faults.MissingField = refl
+of_walk faults.BadKind = refl
+of_walk (faults.Control BadControl) = refl
+of_walk (faults.Control BadValue) = refl
+of_walk (faults.Control BadAction) = refl
+of_walk (faults.Control ZeroJump) = refl
+of_walk (faults.Control OpenBracket) = refl
+of_walk faults.MissingTarget = refl
+of_walk faults.BadTarget = refl
+of_walk faults.Cycle = refl
+of_walk faults.TooDeep = refl
+of_walk faults.TooManyModules = refl
+of_walk faults.IncludeInSingleFile = refl
+of_walk faults.NoService = refl
+of_walk faults.FileTooLong = refl
+of_walk faults.Memory = refl
+of_walk faults.TooManyFollowed = refl
+
+of_difference : (difference : Difference) → problem_of (40 + number_of difference) 0 0 ≡ problems.Released difference
+unfolding problem_of number_of
+of_difference CarriageReturn = refl
+of_difference ContinuedOverBlank = refl
+of_difference BackslashBlank = refl
+of_difference BackslashComment = refl
+of_difference EndsInContinuation = refl
+of_difference CapitalInBrackets = refl
+of_difference LongLine = refl
+of_difference EmptyModuleName = refl
+of_difference DroppedBlank = refl
+
+of_nobody : (service : ℕ) (kind : Kind) → problem_of 61 service (number_of_kind kind) ≡ problems.LetsNobodyIn service kind
+unfolding problem_of
+of_nobody service Auth = refl
+of_nobody service Account = refl
+of_nobody service Password = refl
+of_nobody service Session = refl
+
+of_large : (service : ℕ) (kind : Kind) → problem_of 69 service (number_of_kind kind) ≡ problems.TooLarge service kind
+unfolding problem_of
+of_large service Auth = refl
+of_large service Account = refl
+of_large service Password = refl
+of_large service Session = refl
+
+of_other : (service : ℕ) (kind : Kind) → problem_of 70 service (number_of_kind kind) ≡ problems.OtherAnswers service kind
+unfolding problem_of
+of_other service Auth = refl
+of_other service Account = refl
+of_other service Password = refl
+of_other service Session = refl
+
+of_included : (is_at_include : Bool) → problem_of 50 0 (if is_at_include then 1 else 0) ≡ problems.IncludedFromVendor is_at_include
+unfolding problem_of
+of_included true = refl
+of_included false = refl
+
+of_missing : (is_dashed : Bool) → problem_of 65 0 (if is_dashed then 1 else 0) ≡ problems.NoModule is_dashed
+unfolding problem_of
+of_missing true = refl
+of_missing false = refl
+
+of_argument : (argument : ℕ) (wrong : ArgumentProblem) →
+    problem_of (rank_of_argument wrong) argument (reaction_of wrong) ≡ problems.Argument argument wrong
+unfolding problem_of
+of_argument argument (arguments.Unknown Ignores) = refl
+of_argument argument (arguments.Unknown Logs) = refl
+of_argument argument (arguments.Unknown Fails) = refl
+of_argument argument arguments.Longer = refl
+of_argument argument arguments.OtherKind = refl
+of_argument argument arguments.BadValue = refl
+
+of_problem : (problem : Problem) → problem_of (rank_of problem) (service_of problem) (kind_of problem) ≡ problem
+unfolding problem_of
+of_problem (problems.Fault fault) = of_fault fault
+of_problem (problems.Walk fault) = of_walk fault
+of_problem (problems.Released difference) = of_difference difference
+of_problem (problems.IncludedFromVendor is_at_include) = of_included is_at_include
+of_problem (problems.LetsNobodyIn service kind) = of_nobody service kind
+of_problem (problems.LetsAnybodyIn service) = refl
+of_problem problems.NeverAsked = refl
+of_problem problems.JumpPastEnd = refl
+of_problem (problems.NoModule is_dashed) = of_missing is_dashed
+of_problem problems.NoOther = refl
+of_problem problems.UnreachableName = refl
+of_problem (problems.TooLarge service kind) = of_large service kind
+of_problem (problems.OtherAnswers service kind) = of_other service kind
+of_problem problems.LeftOver = refl
+of_problem problems.JumpIntoInclude = refl
+of_problem problems.NoFunction = refl
+of_problem problems.CallerIsRoot = refl
+of_problem problems.EmptySeparator = refl
+of_problem (problems.Argument argument wrong) = of_argument argument wrong
+
+-- TWO PROBLEMS HAVE TWO PLACES
+pub spot-from_place : (one other : Spot) → place_of one ≡ place_of other → one ≡ other
+unfolding place_of
+spot-from_place one other h =
+    let file : one.file ≡ other.file = ap (λ (p : Place). p.file) h in
+    let line : one.line ≡ other.line = ap (λ (p : Place). p.line) h in
+    let problem : one.problem ≡ other.problem =
+    sym (of_problem one.problem) ∙ ap (λ (p : Place). problem_of p.rank p.service p.kind) h ∙ of_problem other.problem in
+    ap (λ (x : Option ℕ). let s : Spot = record { file = x; line = one.line; problem = one.problem } in s) file
+    ∙ ap (λ (x : ℕ). let s : Spot = record { file = other.file; line = x; problem = one.problem } in s) line
+    ∙ ap (λ (x : Problem). let s : Spot = record { file = other.file; line = other.line; problem = x } in s) problem
+
+-- THE ORDER OF PLACES
+
+exact_options : CmpEqualImpliesEq (option_cmp nat_cmp)
+exact_options None None h = refl
+exact_options None (Some y) h = absurd cc
+exact_options (Some x) None h = absurd cc
+exact_options (Some x) (Some y) h = ap (λ n. Some n) (exact_unsigned x y h)
+
+parts_cmp : (x y : Option ℕ × (ℕ × (ℕ × (ℕ × ℕ)))) → Ordering
+parts_cmp x y =
+    ordering_then (option_cmp nat_cmp x.0 y.0) (ordering_then (nat_cmp x.1.0 y.1.0) (ordering_then (nat_cmp x.1.1.0 y.1.1.0)
+    (ordering_then (nat_cmp x.1.1.1.0 y.1.1.1.0) (nat_cmp x.1.1.1.1 y.1.1.1.1))))
+
+exact_parts : CmpEqualImpliesEq parts_cmp
+unfolding parts_cmp
+exact_parts = exact_pairs {B = ℕ × (ℕ × (ℕ × ℕ))} (option_cmp nat_cmp)
+    (λ x y. ordering_then (nat_cmp x.0 y.0) (ordering_then (nat_cmp x.1.0 y.1.0) (ordering_then (nat_cmp x.1.1.0 y.1.1.0) (nat_cmp x.1.1.1 y.1.1.1))))
+    exact_options
+    (exact_pairs {B = ℕ × (ℕ × ℕ)} nat_cmp (λ x y. ordering_then (nat_cmp x.0 y.0) (ordering_then (nat_cmp x.1.0 y.1.0) (nat_cmp x.1.1 y.1.1))) exact_unsigned
+    (exact_pairs {B = ℕ × ℕ} nat_cmp (λ x y. ordering_then (nat_cmp x.0 y.0) (nat_cmp x.1 y.1)) exact_unsigned
+    (exact_pairs {B = ℕ} nat_cmp nat_cmp exact_unsigned exact_unsigned)))
+
+pub exact_places : CmpEqualImpliesEq compare_places
+unfolding parts_cmp
+exact_places a b h =
+    ap (λ (x : Option ℕ × (ℕ × (ℕ × (ℕ × ℕ)))). let p : Place = record { file = x.0; line = x.1.0; rank = x.1.1.0; service = x.1.1.1.0; kind = x.1.1.1.1 } in p)
+    (exact_parts (a.file, (a.line, (a.rank, (a.service, a.kind)))) (b.file, (b.line, (b.rank, (b.service, b.kind)))) h)
+
+pub places_total : IsTotalOrder compare_places
+places_total =
+    then_total (on_total (λ (p : Place). p.file) (options_total nat_cmp_total)) (then_total (on_total (λ (p : Place). p.line) nat_cmp_total)
+    (then_total (on_total (λ (p : Place). p.rank) nat_cmp_total) (then_total (on_total (λ (p : Place). p.service) nat_cmp_total)
+    (on_total (λ (p : Place). p.kind) nat_cmp_total))))
+
+-- ONE FINDING IS PUT
+
+-- where a problem is put, and where it is not
+pub put-one : (old new : Table) (spot : Spot) (finding : Finding) (value : Spot → Option Finding → Finding) →
+    Updates compare_places old new (place_of spot) (Some finding) → finding ≡ value spot (finding_at old spot) → finding.problem ≡ spot.problem →
+    Puts (λ other. other ≡ spot) value old new
+unfolding place_of
+put-one old new spot finding value updates is_value is_problem =
+    let key : Place = place_of spot in
+    record {
+      each = λ other. elim (cases_Bool (is_at (compare_places key) (place_of other))) [
+        | inl t ↦
+            let same : other ≡ spot = sym (spot-from_place spot other (tells_apart exact_places key (place_of other) t)) in
+            inl (
+              same,
+              updates.0 (place_of other) ∙ ap (λ b. cond b (Some finding) (finding_at old other)) t
+                  ∙ ap (λ x. Some x) (is_value ∙ ap (λ (s : Spot). value s (finding_at old s)) (sym same)),
+            )
+        | inr f ↦ inr (
+          (λ same. false≢true (sym f ∙ ap (λ (s : Spot). is_at (compare_places key) (place_of s)) same
+              ∙ ap is_eq (tied_itself places_total key))),
+          updates.2 (place_of other) f,
+        )
+      ];
+      placed = λ were place. elim (cases_Bool (is_at (compare_places key) place)) [
+        | inl t ↦
+            let same : key ≡ place = tells_apart exact_places key place t in
+            let now : get compare_places new place ≡ Some finding =
+            updates.0 place ∙ ap (λ b. cond b (Some finding) (get compare_places old place)) t in
+            let P : Option Finding → Type 0 = λ o. IfSome o (λ f. place ≡ place_of record { file = place.file; line = place.line; problem = f.problem }) in
+            let at_key : key ≡ place_of record { file = key.file; line = key.line; problem = finding.problem } =
+            ap (λ (x : Problem). place_of record { file = spot.file; line = spot.line; problem = x }) (sym is_problem) in
+            let Q : Place → Type 0 = λ q. q ≡ place_of record { file = q.file; line = q.line; problem = finding.problem } in
+            subst P (sym now) (subst Q same at_key)
+        | inr f ↦
+            let P : Option Finding → Type 0 = λ o. IfSome o (λ f. place ≡ place_of record { file = place.file; line = place.line; problem = f.problem }) in
+            subst P (sym (updates.2 place f)) (were place)
+      ];
+    }
+
+pub removed-one : (old new : Table) (spot : Spot) (key : Place) → key ≡ place_of spot → Updates compare_places old new key None →
+    Removes (λ other. other ≡ spot) old new
+unfolding place_of
+removed-one old new spot key is updates =
+    let at : key ≡ place_of spot = is in
+    record {
+      each = λ other. elim (cases_Bool (is_at (compare_places key) (place_of other))) [
+        | inl t ↦
+            let none : Option Finding = None in
+            inl (
+              sym (spot-from_place spot other (sym at ∙ tells_apart exact_places key (place_of other) t)),
+              updates.0 (place_of other) ∙ ap (λ b. cond b none (finding_at old other)) t,
+            )
+        | inr f ↦ inr (
+          (λ same. false≢true (sym f ∙ ap (λ (s : Spot). is_at (compare_places key) (place_of s)) same
+              ∙ ap (λ (k : Place). is_at (compare_places key) k) (sym at) ∙ ap is_eq (tied_itself places_total key))),
+          updates.2 (place_of other) f,
+        )
+      ];
+      placed = λ were place.
+          let P : Option Finding → Type 0 = λ o. IfSome o (λ f. place ≡ place_of record { file = place.file; line = place.line; problem = f.problem }) in
+          elim (cases_Bool (is_at (compare_places key) place)) [
+            | inl t ↦
+                let none : Option Finding = None in
+                subst P (sym (updates.0 place ∙ ap (λ b. cond b none (get compare_places old place)) t)) tt
+            | inr f ↦ subst P (sym (updates.2 place f)) (were place)
+          ];
+    }
+
+pub put-at : (old new : Table) (spot : Spot) (key : Place) (finding : Finding) (value : Spot → Option Finding → Finding) → key ≡ place_of spot →
+    Updates compare_places old new key (Some finding) → finding ≡ value spot (finding_at old spot) → finding.problem ≡ spot.problem →
+    Puts (λ other. other ≡ spot) value old new
+put-at old new spot key finding value is updates is_value is_problem =
+    let P : Place → Type 0 = λ k. Updates compare_places old new k (Some finding) in
+    put-one old new spot finding value (subst P is updates) is_value is_problem

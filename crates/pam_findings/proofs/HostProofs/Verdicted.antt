@@ -1,0 +1,94 @@
+-- The problems that a verdict gives.
+use Rattle.std.proofs.Common.{◌≡◌, ◌⊎◌, ◌↔◌, ℕ, Bool, true, false, List, [], ◌∷◌, ◌++◌, refl, sym, ◌∙◌, ap, subst, inl, inr, Option, IsSome}
+use Rattle.pam_conf.specs.declared.rule.Kind.TheVariants.{Auth}
+use Rattle.pam_text.specs.Members.{Member}
+use Rattle.pam_findings.specs.host.inner.Looked.{OfModules}
+use Rattle.pam_findings.specs.host.StackProblems.{ByVerdict}
+use Rattle.pam_findings.specs.host.inner.Table.{Adds}
+use Rattle.pam_findings.specs.host.Verdicts.{HasOther, Judged, Judgement}
+use Rattle.pam_findings.specs.declared.host.judging.Stacked.{Stacked}
+use Rattle.pam_findings.specs.declared.host.problem.Problem.{Problem}
+use Rattle.pam_findings.specs.declared.host.problem.Problem.TheVariants as problems
+use Rattle.pam_findings.specs.declared.host.problem.Spot.{Spot}
+use Rattle.pam_findings.proofs.HostProofs.Adding.{adds-both, adds-if, adds-iff, adds-one}
+
+-- a problem of a whole stack
+abbrev pub spot_of : Stacked → Problem → Spot
+spot_of at problem = record { file = at.home; line = 0; problem = problem }
+
+pub same-spot : (one other : Spot) → one.file ≡ other.file → one.line ≡ other.line → one.problem ≡ other.problem → one ≡ other
+same-spot one other file line problem =
+    ap (λ (x : Option ℕ). let s : Spot = record { file = x; line = one.line; problem = one.problem } in s) file
+    ∙ ap (λ (x : ℕ). let s : Spot = record { file = other.file; line = x; problem = one.problem } in s) line
+    ∙ ap (λ (x : Problem). let s : Spot = record { file = other.file; line = other.line; problem = x } in s) problem
+
+-- what a test says
+pub says : {P : Type 0} (b : Bool) → (b ≡ true → P) → (b ≡ false → P → ⊥) → (b ≡ true) ↔ P
+says true h k = (h, λ _. refl)
+says false h k = (h, λ p. absurd (k refl p))
+
+pub adds-whole : (at : Stacked) (problem : Problem) (old new : List Spot) (has : Bool) → has ≡ true → new ≡ old ++ spot_of at problem ∷ [] →
+    Adds (λ spot. (has ≡ true) × (spot ≡ spot_of at problem)) old new
+adds-whole at problem old new has t is = adds-if (has ≡ true) (λ spot. spot ≡ spot_of at problem) old new t (adds-one old new (spot_of at problem) is)
+
+module _ (at : Stacked) (j : Judgement) (nobody anybody : Bool) (says_nobody : (nobody ≡ true) ↔ ((j.nobody ≡ true) × HasOther j.items))
+    (says_anybody : (anybody ≡ true) ↔ ((at.kind ≡ Auth) × IsSome j.way)) where
+  By : Spot → Problem → Type 0
+  By spot problem = ByVerdict at.service at.kind at.home (Judged j) spot problem
+
+  Parts : Spot → Type 0
+  Parts spot =
+      (((nobody ≡ true) × (spot ≡ spot_of at (problems.LetsNobodyIn at.service at.kind)))
+      ⊎ ((anybody ≡ true) × (spot ≡ spot_of at (problems.LetsAnybodyIn at.service))))
+      ⊎ OfModules problems.JumpPastEnd j.items (λ number. Member number j.jumps) spot
+
+  to-verdict : (spot : Spot) → Parts spot → By spot spot.problem
+  unfolding By Parts
+  to-verdict spot (inl (inl h)) = subst (λ (s : Spot). By s s.problem) (sym h.1) (refl, refl, (refl, refl), says_nobody.0 h.0)
+  to-verdict spot (inl (inr h)) =
+      let k = says_anybody.0 h.0 in
+      subst (λ (s : Spot). By s s.problem) (sym h.1) (refl, k.0, (refl, refl), k.1)
+  to-verdict spot (inr m) = subst (By spot) (sym m.of.problem_is) (m.number, m.of.rule, m.of.at, m.one)
+
+  from-verdict : (file : Option ℕ) (line : ℕ) (problem : Problem) →
+      (let spot : Spot = record { file = file; line = line; problem = problem } in By spot problem → Parts spot)
+  unfolding By Parts
+  from-verdict file line (problems.LetsNobodyIn service kind) h =
+      inl (inl (
+        says_nobody.1 h.3,
+        same-spot _ _ h.2.0 h.2.1 (ap (λ s. problems.LetsNobodyIn s kind) h.0 ∙ ap (problems.LetsNobodyIn at.service) h.1),
+      ))
+  from-verdict file line (problems.LetsAnybodyIn service) h =
+      inl (inr (says_anybody.1 (h.1, h.3), same-spot _ _ h.2.0 h.2.1 (ap problems.LetsAnybodyIn h.0)))
+  from-verdict file line problems.JumpPastEnd h =
+      inr record { number = h.0; one = h.3; of = record { problem_is = refl; rule = h.1; at = h.2 } }
+  from-verdict file line (problems.TooLarge service kind) h = absurd cc
+  from-verdict file line (problems.OtherAnswers service kind) h = absurd h
+  from-verdict file line (problems.Fault fault) h = absurd h
+  from-verdict file line (problems.Walk fault) h = absurd h
+  from-verdict file line (problems.Released difference) h = absurd h
+  from-verdict file line (problems.IncludedFromVendor is_at_include) h = absurd h
+  from-verdict file line problems.NeverAsked h = absurd h
+  from-verdict file line (problems.NoModule is_dashed) h = absurd h
+  from-verdict file line problems.NoOther h = absurd h
+  from-verdict file line problems.UnreachableName h = absurd h
+  from-verdict file line problems.LeftOver h = absurd h
+  from-verdict file line problems.JumpIntoInclude h = absurd h
+  from-verdict file line problems.NoFunction h = absurd h
+  from-verdict file line problems.CallerIsRoot h = absurd h
+  from-verdict file line (problems.Argument argument wrong) h = absurd h
+  from-verdict file line problems.EmptySeparator h = absurd h
+
+  pub adds-judged : (old first second new : List Spot) →
+      Adds (λ spot. (nobody ≡ true) × (spot ≡ spot_of at (problems.LetsNobodyIn at.service at.kind))) old first →
+      Adds (λ spot. (anybody ≡ true) × (spot ≡ spot_of at (problems.LetsAnybodyIn at.service))) first second →
+      Adds (OfModules problems.JumpPastEnd j.items (λ number. Member number j.jumps)) second new →
+      Adds (λ spot. ByVerdict at.service at.kind at.home (Judged j) spot spot.problem) old new
+  unfolding By Parts
+  adds-judged old first second new a b c =
+      let A : Spot → Type 0 = λ spot. (nobody ≡ true) × (spot ≡ spot_of at (problems.LetsNobodyIn at.service at.kind)) in
+      let B : Spot → Type 0 = λ spot. (anybody ≡ true) × (spot ≡ spot_of at (problems.LetsAnybodyIn at.service)) in
+      let C : Spot → Type 0 = OfModules problems.JumpPastEnd j.items (λ number. Member number j.jumps) in
+      adds-iff (λ spot. (A spot ⊎ B spot) ⊎ C spot) (λ spot. ByVerdict at.service at.kind at.home (Judged j) spot spot.problem) old new
+      (λ spot. (to-verdict spot, from-verdict spot.file spot.line spot.problem))
+      (adds-both (λ spot. A spot ⊎ B spot) C old second new (adds-both A B old first second a b) c)

@@ -1,0 +1,5 @@
+pub mod AcceptedProofs
+pub mod HostProofs
+pub mod MisspelledProofs
+pub mod StackProofs
+pub mod TablesProofs

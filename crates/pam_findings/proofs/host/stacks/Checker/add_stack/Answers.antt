@@ -1,0 +1,41 @@
+use Rattle.std.proofs.Common.{◌∙◌, ◌++◌, List, Option, ap, length, subst, sym}
+use Rattle.std.specs.Vec.{with_items}
+use Rattle.std.proofs.lemmas.List.{with_items_is}
+use Rattle.pam_conf.specs.Survey.{SurveyText}
+use Rattle.pam_conf.specs.SurveyText.{survey_text}
+use Rattle.pam_text.specs.Members.{Member}
+use Rattle.pam_findings.specs.host.FileProblems.{files_read}
+use Rattle.pam_findings.specs.host.inner.Besides.{beside_text}
+use Rattle.pam_findings.specs.host.inner.Table.{Notes, Puts, with_stack}
+use Rattle.pam_findings.specs.declared.host.met.Met.{Met}
+use Rattle.pam_findings.specs.declared.host.problem.Spot.{Spot}
+use Rattle.pam_findings.proofs.HostProofs.Seen.{adds-stack}
+use Rattle.pam_findings.proofs.host.stacks.Checker.add_stack.Goals as goal
+
+pub returns : goal.returns
+returns c =
+    let readers = c.args.found.now.readers in
+    let rules = c.args.self.now.rules.now in
+    let reached = c.deref.result.now ++ c.deref-2.result.now in
+    let noted = subst (λ (l : List (Option Met)). Notes (λ file. Member file (files_read c.form.result (length l) reached)) c.args.service
+    c.args.kind
+    l c.note_read.new.readers) c.deref_mut.ensures.value c.in_ok-note_read.ensures in
+    let kept = with_items_is readers c.note_read.new.readers (noted.count ∙ sym readers.ok.0) in
+    adds-stack c.args.self.now.files.now rules c.args.self.now.modules.now (beside_text c.args.self.now.beside.now c.args.kind) c.args.service
+    c.args.name.now c.args.kind
+    (survey_text c.in_ok-survey.survey) c.look.new.spots.items c.add_beside.new.table c.in_ok-way.way c.args.found.now
+    (record {
+      table = c.put_stack_at_all.new.table;
+      asked = c.look.new.asked;
+      readers = with_items readers c.note_read.new.readers;
+      cut_off = c.in_ok-found.field-0;
+    })
+    c.form.result c.deref.result.now c.deref-2.result.now c.args.self.now.same c.in_ok-survey.ensures c.form.ensures c.deref.ensures.value
+    (c.deref-2.ensures.value ∙ ap (λ (s : SurveyText). s.reached) c.of_kind.ensures) c.requires
+    (c.in_ok-way.ensures c.in_ok-survey.ensures) c.in_ok-add_beside.ensures
+    (subst (λ (l : List Spot). Puts (λ spot. Member spot l) (with_stack c.args.service c.args.kind) c.add_beside.new.table c.put_stack_at_all.new.table)
+    c.deref-4.ensures.value c.in_ok-put_stack_at_all.ensures)
+    (subst (λ (l : List (Option Met)). Notes (λ file. Member file (files_read c.form.result (length readers.items) reached)) c.args.service
+    c.args.kind
+    readers.items l) (sym kept) noted)
+    c.in_ok-found.ensures

@@ -1,0 +1,15 @@
+use Rattle.std.proofs.Common.{List, map, refl, subst}
+use Rattle.pam_text.specs.Members.{Member}
+use Rattle.pam_findings.specs.tables.Needs.{OfTime}
+use Rattle.pam_findings.specs.tables.inner.Passes.{need_view}
+use Rattle.pam_findings.specs.declared.tables.needs.Needed.{Needed}
+use Rattle.pam_findings.proofs.TablesProofs.Adding.{adds-known, adds-pushed}
+use Rattle.pam_findings.proofs.tables.needs.add_time.Goals as goal
+
+pub returns-then-has_time : goal.returns-then-has_time
+returns-then-has_time c =
+    adds-known OfTime (map need_view c.args.needs.now.items)
+    (subst (λ (l : List Needed). Member OfTime (map need_view l)) c.deref.ensures.value (c.has_time.ensures c.if-has_time.true))
+
+pub returns : goal.returns
+returns c = adds-pushed _ OfTime c.args.needs.now.items c.push.new.self.items c.in_ok-push.ensures.items refl

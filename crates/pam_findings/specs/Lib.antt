@@ -1,0 +1,5 @@
+pub mod accepted
+pub mod host
+pub mod misspelled
+pub mod stack
+pub mod tables

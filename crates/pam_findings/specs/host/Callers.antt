@@ -1,0 +1,41 @@
+-- Modules that look at the user of the calling process, and the services in which that user is whoever asks.
+use Rattle.std.specs.Prelude.{ℕ, ◌&&◌, ◌||◌, Bool, true, false, not, List, [], ◌∷◌, codes}
+use Rattle.std.specs.List.{list_any}
+use Rattle.std.specs.Option.{option_map_or}
+use Rattle.std.specs.Str.{bytes_eq}
+use Rattle.pam_conf.specs.Stack.{ModuleText}
+use Rattle.pam_conf.specs.declared.rule.Kind.{Kind}
+use Rattle.pam_conf.specs.declared.rule.Kind.TheVariants.{Auth}
+use Rattle.pam_facts.specs.Paths.{module_name}
+
+-- the services of programs that users start themselves: set-user-ID programs, and tools of root
+unfoldable pub user_services : List (List ℕ)
+user_services =
+    codes "su" ∷ codes "su-l" ∷ codes "runuser" ∷ codes "runuser-l" ∷ codes "sudo" ∷ codes "sudo-i" ∷ codes "pkexec" ∷ codes "polkit-1"
+    ∷ codes "passwd" ∷ codes "chsh" ∷ codes "chfn" ∷ codes "chpasswd" ∷ codes "newusers" ∷ codes "useradd" ∷ codes "userdel" ∷ codes "usermod"
+    ∷ codes "groupadd" ∷ codes "groupdel" ∷ codes "groupmod" ∷ codes "at" ∷ codes "crontab" ∷ []
+
+abbrev pub is_user_service : List ℕ → Bool
+is_user_service service = list_any (bytes_eq service) user_services
+
+abbrev pub has_argument : List ℕ → List (List ℕ) → Bool
+has_argument wanted arguments = list_any (λ argument. bytes_eq argument wanted) arguments
+
+-- pam_rootok(8) asks whether the user of the process is root; with use_uid pam_succeed_if(8) and pam_usertype(8) test that user; and
+-- with trust pam_wheel(8) succeeds by the groups of that user
+abbrev pub asks_caller_by : List (List ℕ) → List ℕ → Bool
+asks_caller_by arguments name =
+    bytes_eq name (codes "pam_rootok")
+    || (((bytes_eq name (codes "pam_succeed_if") || bytes_eq name (codes "pam_usertype")) && has_argument (codes "use_uid") arguments)
+    || (bytes_eq name (codes "pam_wheel") && has_argument (codes "trust") arguments))
+
+abbrev pub asks_caller : ModuleText → Bool
+asks_caller m = option_map_or (asks_caller_by m.arguments) (module_name m.path) false
+
+abbrev pub is_auth : Kind → Bool
+is_auth Auth = true
+is_auth kind = false
+
+-- S14: a module looks at the user of the process, where no user has started the program: it is always root
+abbrev pub caller_is_root : Kind → List ℕ → ModuleText → Bool
+caller_is_root kind service m = is_auth kind && not (is_user_service service) && asks_caller m

@@ -1,0 +1,83 @@
+-- What the definitions imply.
+use Rattle.std.specs.Prelude.{◌≡◌, ℕ, ◌<◌, All, List, length, map, slice_index_or, Option, Some, None, Ok}
+use Rattle.std.specs.BTreeMap.{BTreeMap}
+use Rattle.pam_findings.specs.stack.Soundness.{IsFirstWayIn, LetsIn}
+use Rattle.pam_conf.specs.Resolution.{resolved}
+use Rattle.pam_conf.specs.Stack.{IsNumbered, Items, ModuleText, module_at, module_count}
+use Rattle.pam_conf.specs.declared.rule.Kind.{Kind}
+use Rattle.pam_conf.specs.declared.rule.Kind.TheVariants.{Auth}
+use Rattle.pam_dispatch.specs.Runs.{Assignment}
+use Rattle.pam_dispatch.specs.State.{start_state, success}
+use Rattle.pam_dispatch.specs.Tree.{asked, decided}
+use Rattle.pam_paths.specs.Known.{may_answer}
+use Rattle.pam_paths.specs.Listing.{Allowance, IsAllowed}
+use Rattle.pam_paths.specs.Paths.{PathValue}
+use Rattle.pam_paths.specs.declared.knowledge.Known.{Known}
+use Rattle.pam_findings.specs.host.Host.{Host, service_at}
+use Rattle.pam_findings.specs.host.Arguments.{wrong_argument}
+use Rattle.pam_findings.specs.host.Levels.{level_of, level_of_argument}
+use Rattle.pam_findings.specs.host.Report.{IsReportOn}
+use Rattle.pam_findings.specs.host.Verdicts.{HasOther, IsFailing, IsFree, answers_on}
+use Rattle.pam_findings.specs.declared.host.level.Level.TheVariants.{Note}
+use Rattle.pam_findings.specs.declared.host.problem.ArgumentProblem.{ArgumentProblem}
+use Rattle.pam_findings.specs.declared.host.problem.Place.{Place}
+use Rattle.pam_findings.specs.declared.host.report.Finding.{Finding}
+use Rattle.pam_findings.specs.declared.host.way_in.Answered.{Answered}
+use Rattle.pam_findings.specs.declared.host.way_in.WayIn.{WayIn}
+
+-- no finding is at or above warning
+abbrev pub IsSilent : BTreeMap Place Finding → Type 0
+IsSilent found = All (λ entry. level_of entry.1.problem ≡ Note) found.entries
+
+-- A SOUND STACK of a service for a kind: it is accepted; some answers let somebody in, unless its modules only deny and warn; for
+-- auth, none let in anybody whose checks all fail; and no module has an argument that it does not take, but for what is a note
+pub record IsSoundStack (host : Host) (service : ℕ) (kind : Kind) : Type 0 where
+  pub items : Items
+  pub stack : resolved host.folder (service_at host service) kind ≡ Ok items
+  pub free : Known
+  pub failing : Known
+  pub is_free : IsFree host.modules kind items free
+  pub is_failing : IsFailing host.modules kind items failing
+  pub somebody : HasOther items → LetsIn (may_answer free) items
+  pub nobody_else : kind ≡ Auth → (answers : Assignment) → IsAllowed (may_answer failing) (module_count items) answers → decided items answers ≡ success → ⊥
+  pub arguments : (number : ℕ) (rule : ModuleText) (position : ℕ) (wrong : ArgumentProblem) → module_at number items ≡ Some rule →
+      wrong_argument kind rule position ≡ Some wrong → level_of_argument wrong ≡ Note
+
+-- each stack of a host without such a finding is sound
+abbrev pub SilentHostIsSound : Type 0
+SilentHostIsSound =
+    (host : Host) (named : List (List ℕ)) (found : BTreeMap Place Finding) (ways : List (Option WayIn)) →
+    IsReportOn host named found ways → IsSilent found →
+    (service : ℕ) (kind : Kind) → service < length host.services → IsSoundStack host service kind
+
+-- the modules that a stack asks, in order, with their answers
+abbrev pub answers_given : Items → Assignment → List Answered
+answers_given items answers =
+    map (λ ask. let a : Answered = record { number = ask.module_number; code = answers ask.module_number } in a) (asked items start_state start_state answers)
+
+-- THESE ANSWERS LET SOMEBODY IN: they are those of the modules that the stack asks, in order, under answers that are allowed, and it
+-- decides success
+pub record LetIn (allows : Allowance) (items : Items) (given : List Answered) : Type 0 where
+  pub answers : Assignment
+  pub allowed : IsAllowed allows (module_count items) answers
+  pub are_given : answers_given items answers ≡ given
+  pub decides : decided items answers ≡ success
+
+-- the answers on the first way in let somebody in
+abbrev pub FirstWayLetsIn : Type 0
+FirstWayLetsIn =
+    (allows : Allowance) (items : Items) (path : PathValue) → IsNumbered items → IsFirstWayIn allows items path →
+    LetIn allows items (answers_on allows path)
+
+-- a way in is the stack of its service for auth, and its answers let somebody in although each module that checks who logs in fails
+pub record IsTrueWayIn (host : Host) (service : ℕ) (way : WayIn) : Type 0 where
+  pub stack : resolved host.folder (service_at host service) Auth ≡ Ok way.stack
+  pub failing : Known
+  pub is_failing : IsFailing host.modules Auth way.stack failing
+  pub let_in : LetIn (may_answer failing) way.stack way.answers.items
+
+-- each way in of a report is such
+abbrev pub WaysInLetIn : Type 0
+WaysInLetIn =
+    (host : Host) (named : List (List ℕ)) (found : BTreeMap Place Finding) (ways : List (Option WayIn)) → IsReportOn host named found ways →
+    (service : ℕ) (way : WayIn) → service < length host.services → slice_index_or ways service None ≡ Some way → IsTrueWayIn host service way

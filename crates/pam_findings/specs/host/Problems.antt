@@ -1,0 +1,125 @@
+-- The problems of a host, in the order in which they are listed.
+use Rattle.std.specs.Prelude.{ℕ, ◌+◌, if◌then◌else◌}
+use Rattle.std.specs.Option.{option_cmp}
+use Rattle.std.specs.Ordering.{nat_cmp, ordering_then}
+use Rattle.std.specs.declared.cmp.Ordering.{Ordering}
+use Rattle.pam_arguments.specs.declared.verdict.Reaction.{Reaction}
+use Rattle.pam_arguments.specs.declared.verdict.Reaction.TheVariants.{Fails, Ignores, Logs}
+use Rattle.pam_codes.specs.declared.error.ControlError.{ControlError}
+use Rattle.pam_codes.specs.declared.error.ControlError.TheVariants.{BadControl, BadValue, BadAction, ZeroJump, OpenBracket}
+use Rattle.pam_conf.specs.declared.error.FaultKind.{FaultKind}
+use Rattle.pam_conf.specs.declared.error.FaultKind.TheVariants as faults
+use Rattle.pam_conf.specs.declared.rule.Kind.{Kind}
+use Rattle.pam_conf.specs.declared.rule.Kind.TheVariants.{Auth, Account, Password, Session}
+use Rattle.pam_released.specs.Findings.{number_of}
+use Rattle.pam_findings.specs.declared.host.problem.ArgumentProblem.{ArgumentProblem}
+use Rattle.pam_findings.specs.declared.host.problem.ArgumentProblem.TheVariants as arguments
+use Rattle.pam_findings.specs.declared.host.problem.Place.{Place}
+use Rattle.pam_findings.specs.declared.host.problem.Problem.{Problem}
+use Rattle.pam_findings.specs.declared.host.problem.Problem.TheVariants as problems
+use Rattle.pam_findings.specs.declared.host.problem.Spot.{Spot}
+
+abbrev pub rank_of_control : ControlError → ℕ
+rank_of_control BadControl = 4
+rank_of_control BadValue = 5
+rank_of_control BadAction = 6
+rank_of_control ZeroJump = 7
+rank_of_control OpenBracket = 8
+
+-- the number after `E`
+abbrev pub rank_of_fault : FaultKind → ℕ
+rank_of_fault faults.NulByte = 1
+rank_of_fault faults.MissingField = 2
+rank_of_fault faults.BadKind = 3
+rank_of_fault (faults.Control error) = rank_of_control error
+rank_of_fault faults.MissingTarget = 9
+rank_of_fault faults.BadTarget = 10
+rank_of_fault faults.Cycle = 11
+rank_of_fault faults.TooDeep = 12
+rank_of_fault faults.TooManyModules = 13
+rank_of_fault faults.IncludeInSingleFile = 14
+rank_of_fault faults.NoService = 15
+rank_of_fault faults.FileTooLong = 16
+rank_of_fault faults.Memory = 17
+rank_of_fault faults.TooManyFollowed = 18
+
+abbrev pub rank_of_argument : ArgumentProblem → ℕ
+rank_of_argument (arguments.Unknown reaction) = 75
+rank_of_argument arguments.Longer = 76
+rank_of_argument arguments.OtherKind = 77
+rank_of_argument arguments.BadValue = 78
+
+-- E1 to E18 of lines come first, then those of walks, then L1 to L10, A5, and S1 to S18
+abbrev pub rank_of : Problem → ℕ
+rank_of (problems.Fault fault) = rank_of_fault fault
+rank_of (problems.Walk fault) = 20 + rank_of_fault fault
+rank_of (problems.Released difference) = 40 + number_of difference
+rank_of (problems.IncludedFromVendor is_at_include) = 50
+rank_of problems.EmptySeparator = 55
+rank_of (problems.LetsNobodyIn service kind) = 61
+rank_of (problems.LetsAnybodyIn service) = 62
+rank_of problems.NeverAsked = 63
+rank_of problems.JumpPastEnd = 64
+rank_of (problems.NoModule is_dashed) = 65
+rank_of problems.NoOther = 66
+rank_of problems.UnreachableName = 67
+rank_of (problems.TooLarge service kind) = 69
+rank_of (problems.OtherAnswers service kind) = 70
+rank_of problems.LeftOver = 71
+rank_of problems.JumpIntoInclude = 72
+rank_of problems.NoFunction = 73
+rank_of problems.CallerIsRoot = 74
+rank_of (problems.Argument argument wrong) = rank_of_argument wrong
+
+abbrev pub number_of_kind : Kind → ℕ
+number_of_kind Auth = 0
+number_of_kind Account = 1
+number_of_kind Password = 2
+number_of_kind Session = 3
+
+abbrev pub number_of_reaction : Reaction → ℕ
+number_of_reaction Ignores = 0
+number_of_reaction Logs = 1
+number_of_reaction Fails = 2
+
+-- what the module does, where it does not know an argument
+abbrev pub reaction_of : ArgumentProblem → ℕ
+reaction_of (arguments.Unknown reaction) = number_of_reaction reaction
+reaction_of wrong = 0
+
+-- the service of a problem that names one, and the position of an argument
+abbrev pub service_of : Problem → ℕ
+service_of (problems.LetsNobodyIn service kind) = service
+service_of (problems.LetsAnybodyIn service) = service
+service_of (problems.TooLarge service kind) = service
+service_of (problems.OtherAnswers service kind) = service
+service_of (problems.Argument argument wrong) = argument
+service_of problem = 0
+
+-- the number of its kind; L10 of an `@include` has another one than that of a rule with a kind, S5 of a dashed rule than that of a
+-- rule without a dash, and S15 has one for what the module does
+abbrev pub kind_of : Problem → ℕ
+kind_of (problems.LetsNobodyIn service kind) = number_of_kind kind
+kind_of (problems.TooLarge service kind) = number_of_kind kind
+kind_of (problems.OtherAnswers service kind) = number_of_kind kind
+kind_of (problems.IncludedFromVendor is_at_include) = if is_at_include then 1 else 0
+kind_of (problems.NoModule is_dashed) = if is_dashed then 1 else 0
+kind_of (problems.Argument argument wrong) = reaction_of wrong
+kind_of problem = 0
+
+-- THE PLACE of a problem at a line of a file
+unfoldable pub place_of : Spot → Place
+place_of spot = record {
+  file = spot.file;
+  line = spot.line;
+  rank = rank_of spot.problem;
+  service = service_of spot.problem;
+  kind = kind_of spot.problem;
+}
+
+-- THE ORDER OF PLACES: by file, where the configuration as a whole comes first; in one file by line; at one line by rank; and at one
+-- rank by service, and then by kind
+abbrev pub compare_places : Place → Place → Ordering
+compare_places one other =
+    ordering_then (option_cmp nat_cmp one.file other.file) (ordering_then (nat_cmp one.line other.line) (ordering_then (nat_cmp one.rank other.rank)
+    (ordering_then (nat_cmp one.service other.service) (nat_cmp one.kind other.kind))))

@@ -1,0 +1,119 @@
+-- What is wrong with a stack.
+use Rattle.std.specs.Prelude.{◌≡◌, ◌⊎◌, ℕ, true, List, [], IsSome, MatchOption, slice_get, Option, Some, None}
+use Rattle.pam_conf.specs.FileRules.{good_rules}
+use Rattle.pam_conf.specs.Files.{Folder, bytes_at}
+use Rattle.pam_conf.specs.Rule.{RuleText}
+use Rattle.pam_conf.specs.Stack.{Items, ModuleText, module_at}
+use Rattle.pam_conf.specs.Survey.{SurveyText}
+use Rattle.pam_conf.specs.declared.conf_error.ConfError.{ConfError}
+use Rattle.pam_conf.specs.declared.rule.Kind.{Kind}
+use Rattle.pam_conf.specs.declared.rule.Kind.TheVariants.{Auth}
+use Rattle.pam_text.specs.Members.{Member}
+use Rattle.pam_paths.specs.Known.{may_answer}
+use Rattle.pam_paths.specs.Paths.{PathValue}
+use Rattle.pam_findings.specs.host.Arguments.{wrong_argument}
+use Rattle.pam_findings.specs.host.Callers.{caller_is_root}
+use Rattle.pam_findings.specs.host.Modules.{Modules}
+use Rattle.pam_findings.specs.host.Separators.{lacks_separator}
+use Rattle.pam_findings.specs.host.Verdicts.{Judged, Judgement, LetsNobody, Refused, TooLarge, Verdict}
+use Rattle.pam_findings.specs.host.Verdicts.{answers_on, has_no_function, is_missing, is_other, never_asked_in, way_in_of}
+use Rattle.pam_findings.specs.declared.host.problem.Problem.{Problem}
+use Rattle.pam_findings.specs.declared.host.problem.Problem.TheVariants as problems
+use Rattle.pam_findings.specs.declared.host.problem.Spot.{Spot}
+use Rattle.pam_findings.specs.declared.host.way_in.WayIn.{WayIn}
+
+-- FAULTS OF THE WALK
+
+abbrev pub InWalk : List ConfError → Spot → Problem → Type 0
+InWalk faults spot (problems.Walk fault) = Member (record { kind = fault; at = spot.file; line = spot.line }) faults
+InWalk faults spot problem = ⊥
+
+-- MODULES
+
+-- the module with this number has its rule here
+pub record IsAt (items : Items) (number : ℕ) (spot : Spot) (rule : ModuleText) : Type 0 where
+  pub is_there : module_at number items ≡ Some rule
+  pub file : spot.file ≡ Some rule.file
+  pub line : spot.line ≡ rule.line
+
+-- a module has its rule here, and passes a test
+abbrev pub HasModule : Items → Spot → (ℕ → ModuleText → Type 0) → Type 0
+HasModule items spot Passes = (number : ℕ) × (rule : ModuleText) × IsAt items number spot rule × Passes number rule
+
+-- A5, S5, S13 to S18, in a stack of a service for a kind; and S3, if no stack may ask it
+abbrev pub ModuleHas : Modules → List ℕ → Kind → ModuleText → Problem → Type 0
+ModuleHas modules name kind rule problems.NeverAsked = is_other rule ≡ true
+ModuleHas modules name kind rule problems.EmptySeparator = lacks_separator rule ≡ true
+ModuleHas modules name kind rule (problems.NoModule is_dashed) = (is_missing modules rule ≡ true) × (is_dashed ≡ rule.dashed)
+ModuleHas modules name kind rule problems.NoFunction = has_no_function modules.facts kind rule ≡ true
+ModuleHas modules name kind rule problems.CallerIsRoot = caller_is_root kind name rule ≡ true
+ModuleHas modules name kind rule (problems.Argument argument wrong) = wrong_argument kind rule argument ≡ Some wrong
+ModuleHas modules name kind rule problem = ⊥
+
+-- as far as the rules without a fault give a stack
+abbrev pub InItems : Modules → List ℕ → Kind → Option Items → Spot → Problem → Type 0
+InItems modules name kind None spot problem = ⊥
+InItems modules name kind (Some items) spot problem = HasModule items spot (λ number rule. ModuleHas modules name kind rule problem)
+
+-- S3: answers may ask a module with its rule here. Where a stack is refused or too large it is not known of any that they do not
+abbrev pub MayAsk : Option Items → Verdict → Spot → Type 0
+MayAsk None verdict spot = ⊥
+MayAsk (Some items) verdict spot = HasModule items spot (λ number rule. Member number (never_asked_in verdict) → ⊥)
+
+-- A LIMIT ENDS THE WALK of a stack, which has begun at a file: so it is not known which modules the stack has
+pub record IsCutOff (survey : SurveyText) : Type 0 where
+  pub begun : survey.reached ≡ [] → ⊥
+  pub ended : survey.items ≡ None
+
+-- a rule of this kind, without a fault, is here
+pub record HasRule (folder : Folder) (kind : Kind) (spot : Spot) : Type 0 where
+  pub file : ℕ
+  pub bytes : List ℕ
+  pub rule : RuleText
+  pub is_file : bytes_at file folder.entries ≡ Some bytes
+  pub is_rule : Member rule (good_rules folder.form bytes)
+  pub is_kind : rule.kind ≡ Some kind
+  pub at : spot.file ≡ Some file
+  pub line : spot.line ≡ rule.line
+
+-- S3: a stack may ask a module with its rule here; where a limit ends the walk, it may have any rule of its kind
+abbrev pub MayAskHere : Folder → Kind → SurveyText → Verdict → Spot → Type 0
+MayAskHere folder kind survey verdict spot = MayAsk survey.items verdict spot ⊎ (IsCutOff survey × HasRule folder kind spot)
+
+-- S4: a module can jump past the end of its list
+abbrev pub Jumps : Verdict → Spot → Type 0
+Jumps Refused spot = ⊥
+Jumps TooLarge spot = ⊥
+Jumps (Judged j) spot = HasModule j.items spot (λ number rule. Member number j.jumps)
+
+-- BY THE VERDICT on the stack of a service for a kind, where a whole stack is at line 0 of the file of its first rules
+
+abbrev pub IsHome : Option ℕ → Spot → Type 0
+IsHome home spot = (spot.file ≡ home) × (spot.line ≡ 0)
+
+-- S1, S2, S4 and S9
+abbrev pub ByVerdict : ℕ → Kind → Option ℕ → Verdict → Spot → Problem → Type 0
+ByVerdict service kind home verdict spot (problems.LetsNobodyIn of_service of_kind) =
+    (of_service ≡ service) × (of_kind ≡ kind) × IsHome home spot × LetsNobody verdict
+ByVerdict service kind home verdict spot (problems.LetsAnybodyIn of_service) =
+    (of_service ≡ service) × (kind ≡ Auth) × IsHome home spot × IsSome (way_in_of verdict)
+ByVerdict service kind home verdict spot (problems.TooLarge of_service of_kind) =
+    (of_service ≡ service) × (of_kind ≡ kind) × IsHome home spot × (verdict ≡ TooLarge)
+ByVerdict service kind home verdict spot problems.JumpPastEnd = Jumps verdict spot
+ByVerdict service kind home verdict spot problem = ⊥
+
+-- A PROBLEM OF A STACK itself, by the survey of a service and the verdict
+abbrev pub InStack : Modules → ℕ → List ℕ → Kind → SurveyText → Verdict → Spot → Type 0
+InStack modules service name kind survey verdict spot =
+    InWalk survey.faults spot spot.problem
+    ⊎ (InItems modules name kind survey.items spot spot.problem ⊎ ByVerdict service kind (slice_get survey.reached 0) verdict spot spot.problem)
+
+-- THE FIRST WAY IN, as a stack and answers of its modules
+pub record IsWayIn (j : Judgement) (path : PathValue) (way : WayIn) : Type 0 where
+  pub stack : way.stack ≡ j.items
+  pub answers : way.answers.items ≡ answers_on (may_answer j.failing) path
+
+abbrev pub HasWayIn : Verdict → Option WayIn → Type 0
+HasWayIn Refused way = way ≡ None
+HasWayIn TooLarge way = way ≡ None
+HasWayIn (Judged j) way = MatchOption j.way (way ≡ None) (λ path. MatchOption way ⊥ (IsWayIn j path))

@@ -1,0 +1,124 @@
+-- What a stack does to everybody: pam.conf(5), DESCRIPTION.
+use Rattle.std.specs.Prelude.{◌≡◌, ◌⊎◌, ℕ, ◌&&◌, ◌||◌, Bool, true, false, not, List, [], map, codes, if◌then◌else◌}
+use Rattle.std.specs.Prelude.{Option, Some, None, Ok, slice_get, unwrap_or}
+use Rattle.std.specs.Str.{bytes_eq}
+use Rattle.std.specs.Option.{option_map_or}
+use Rattle.pam_codes.specs.Code.{auth_err}
+use Rattle.pam_codes.specs.Set.{codes_where, is_in}
+use Rattle.pam_findings.specs.stack.Asked.{AreExactly, IsNeverAsked, JumpsPastEnd}
+use Rattle.pam_findings.specs.stack.Soundness.{HasTooManyPlaces, SaysNobody, SaysWayIn}
+use Rattle.pam_conf.specs.Files.{Folder}
+use Rattle.pam_conf.specs.Resolution.{resolved}
+use Rattle.pam_conf.specs.Stack.{Items, ModuleText, module_at, module_count}
+use Rattle.pam_conf.specs.declared.rule.Kind.{Kind}
+use Rattle.pam_facts.specs.Answers.{Allows, failing_answers, free_answers, is_there}
+use Rattle.pam_facts.specs.Facts.{has_function}
+use Rattle.pam_facts.specs.Fitting.{fact_of}
+use Rattle.pam_facts.specs.Paths.{module_name}
+use Rattle.pam_facts.specs.Rows.{Row}
+use Rattle.pam_paths.specs.Known.{may_answer}
+use Rattle.pam_paths.specs.Listing.{Allowance}
+use Rattle.pam_paths.specs.Paths.{PathValue, StepValue}
+use Rattle.pam_paths.specs.declared.knowledge.Known.{Known}
+use Rattle.pam_findings.specs.host.Modules.{Modules}
+use Rattle.pam_findings.specs.declared.host.way_in.Answered.{Answered}
+
+-- what is found of a stack: its items; the answers that its modules can give, and those if each check fails; whether nobody is
+-- let in, the first way in if each check fails, the modules that are never asked, and those that can jump past the end of their list
+pub record Judgement : Type 0 where
+  pub items : Items
+  pub free : Known
+  pub failing : Known
+  pub nobody : Bool
+  pub way : Option PathValue
+  pub never_asked : List ℕ
+  pub jumps : List ℕ
+
+pub data Verdict : Type 0 where
+  Refused : Verdict
+  TooLarge : Verdict
+  Judged : Judgement → Verdict
+
+-- the answers of the modules of a stack, as far as facts say, and those if each module that checks who logs in fails
+abbrev pub IsFree : Modules → Kind → Items → Known → Type 0
+IsFree modules kind items known = Allows (module_count items) known (free_answers kind modules.facts modules.there items)
+
+abbrev pub IsFailing : Modules → Kind → Items → Known → Type 0
+IsFailing modules kind items known = Allows (module_count items) known (failing_answers kind modules.facts modules.there items)
+
+-- the stack of a service for a kind
+module _ (folder : Folder) (modules : Modules) (service : List ℕ) (kind : Kind) where
+  pub record IsJudgement (j : Judgement) : Type 0 where
+    pub stack : resolved folder service kind ≡ Ok j.items
+    pub free : IsFree modules kind j.items j.free
+    pub failing : IsFailing modules kind j.items j.failing
+    pub nobody : SaysNobody (may_answer j.free) j.items j.nobody
+    pub way : SaysWayIn (may_answer j.failing) j.items j.way
+    pub never_asked : AreExactly (IsNeverAsked (may_answer j.free) j.items) j.never_asked
+    pub jumps : AreExactly (JumpsPastEnd (may_answer j.free) j.items) j.jumps
+
+  -- its runs come to more places than a graph has nodes
+  pub record IsTooLarge : Type 0 where
+    pub items : Items
+    pub free : Known
+    pub failing : Known
+    pub stack : resolved folder service kind ≡ Ok items
+    pub is_free : IsFree modules kind items free
+    pub is_failing : IsFailing modules kind items failing
+    pub large : HasTooManyPlaces (may_answer free) items ⊎ HasTooManyPlaces (may_answer failing) items
+
+  -- THE VERDICT on it
+  abbrev pub IsVerdict : Verdict → Type 0
+  IsVerdict Refused = (items : Items) → resolved folder service kind ≡ Ok items → ⊥
+  IsVerdict TooLarge = IsTooLarge
+  IsVerdict (Judged j) = IsJudgement j
+
+-- the name of a module is that of one that denies, or only warns
+abbrev pub denies_or_warns : List ℕ → Bool
+denies_or_warns name = bytes_eq name (codes "pam_deny") || bytes_eq name (codes "pam_warn")
+
+abbrev pub is_other : ModuleText → Bool
+is_other m = not (option_map_or denies_or_warns (module_name m.path) false)
+
+-- a stack has a module that does something else
+abbrev pub HasOther : Items → Type 0
+HasOther items = (number : ℕ) × (m : ModuleText) × (module_at number items ≡ Some m) × (is_other m ≡ true)
+
+-- S1 and S2, by the verdict
+abbrev pub LetsNobody : Verdict → Type 0
+LetsNobody Refused = ⊥
+LetsNobody TooLarge = ⊥
+LetsNobody (Judged j) = (j.nobody ≡ true) × HasOther j.items
+
+abbrev pub way_in_of : Verdict → Option PathValue
+way_in_of Refused = None
+way_in_of TooLarge = None
+way_in_of (Judged j) = j.way
+
+-- S3: the modules that are known never to be asked
+abbrev pub never_asked_in : Verdict → List ℕ
+never_asked_in Refused = []
+never_asked_in TooLarge = []
+never_asked_in (Judged j) = j.never_asked
+
+-- S5: a module is not there
+abbrev pub is_missing : Modules → ModuleText → Bool
+is_missing modules m = not (is_there modules.there m.path)
+
+-- S13: a module has no function in a kind
+abbrev pub has_no_function : List Row → Kind → ModuleText → Bool
+has_no_function facts kind m = not (has_function kind (fact_of facts m.path m.arguments))
+
+-- of some codes auth_err if it is one of them, else the first
+abbrev pub answer_among : List ℕ → ℕ
+answer_among codes = if is_in auth_err codes then auth_err else unwrap_or (slice_get codes 0) 0
+
+-- THE ANSWERS on a path: of each class a code that the module may answer
+abbrev pub answer_on : Allowance → StepValue → Answered
+answer_on allows step = record {
+  number = step.module_number;
+  code = answer_among (codes_where (λ code. is_in code step.class && is_in code (codes_where (allows step.module_number))));
+}
+
+abbrev pub answers_on : Allowance → PathValue → List Answered
+answers_on allows path = map (answer_on allows) path.steps

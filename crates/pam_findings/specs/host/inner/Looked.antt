@@ -1,0 +1,82 @@
+-- For private contracts and proofs alone: what is seen of a stack.
+use Rattle.std.specs.Prelude.{◌≡◌, ℕ, List, [], MatchOption, Option, Some}
+use Rattle.pam_findings.specs.declared.stack.soundness.Soundness.{Soundness}
+use Rattle.pam_conf.specs.Files.{Folder}
+use Rattle.pam_conf.specs.Stack.{Items, ModuleText, module_at}
+use Rattle.pam_conf.specs.Survey.{SurveyText}
+use Rattle.pam_conf.specs.declared.conf_error.ConfError.{ConfError}
+use Rattle.pam_conf.specs.declared.rule.Kind.{Kind}
+use Rattle.pam_conf.specs.declared.rule.Kind.TheVariants.{Auth}
+use Rattle.pam_paths.specs.declared.knowledge.Known.{Known}
+use Rattle.pam_findings.specs.host.Modules.{Modules}
+use Rattle.pam_findings.specs.host.StackProblems.{ByVerdict, HasWayIn, InStack, IsAt, MayAsk, ModuleHas}
+use Rattle.pam_findings.specs.host.inner.Table.{Adds}
+use Rattle.pam_findings.specs.host.Verdicts.{IsVerdict, Judgement, Verdict}
+use Rattle.pam_findings.specs.declared.host.judging.Stacked.{Stacked}
+use Rattle.pam_findings.specs.declared.host.problem.Problem.{Problem}
+use Rattle.pam_findings.specs.declared.host.problem.Problem.TheVariants as problems
+use Rattle.pam_findings.specs.declared.host.problem.Spot.{Spot}
+use Rattle.pam_findings.specs.declared.host.way_in.WayIn.{WayIn}
+
+abbrev pub walk_spot : ConfError → Spot
+walk_spot fault = record { file = fault.at; line = fault.line; problem = problems.Walk fault.kind }
+
+-- a problem of the module with this number
+pub record OfModule (problem : Problem) (items : Items) (number : ℕ) (spot : Spot) : Type 0 where
+  pub problem_is : spot.problem ≡ problem
+  pub rule : ModuleText
+  pub at : IsAt items number spot rule
+
+-- a problem of a module with one of these numbers
+pub record OfModules (problem : Problem) (items : Items) (IsOne : ℕ → Type 0) (spot : Spot) : Type 0 where
+  pub number : ℕ
+  pub one : IsOne number
+  pub of : OfModule problem items number spot
+
+abbrev pub spot_at : ModuleText → Problem → Spot
+spot_at rule problem = record { file = Some rule.file; line = rule.line; problem = problem }
+
+-- a problem of a rule, whose module has it by itself
+pub record OfRule (modules : Modules) (name : List ℕ) (kind : Kind) (rule : ModuleText) (spot : Spot) : Type 0 where
+  pub file : spot.file ≡ Some rule.file
+  pub line : spot.line ≡ rule.line
+  pub has : ModuleHas modules name kind rule spot.problem
+
+-- the same, by the number of the module
+abbrev pub OfNumber : Modules → List ℕ → Kind → Items → ℕ → Spot → Type 0
+OfNumber modules name kind items number spot = MatchOption (module_at number items) ⊥ (λ rule. OfRule modules name kind rule spot)
+
+-- what the runs of a stack come to, as a judgement
+abbrev pub judgement_of : Items → Known → Known → Soundness → Judgement
+judgement_of items free failing s = record {
+  items = items;
+  free = free;
+  failing = failing;
+  nobody = s.lets_nobody_in;
+  way = s.lets_anybody_in;
+  never_asked = s.never_asked.items;
+  jumps = s.jumps_past_end.items;
+}
+
+-- the rules that a stack may ask, as S3 of them
+pub record Asks (items : Option Items) (verdict : Verdict) (spot : Spot) : Type 0 where
+  pub problem_is : spot.problem ≡ problems.NeverAsked
+  pub may_ask : MayAsk items verdict spot
+
+-- some verdict on a stack, the problems that it gives, the rules that it may ask, and the first way in
+pub record Judges (folder : Folder) (modules : Modules) (name : List ℕ) (at : Stacked) (items : Items) (old new asked more : List Spot)
+    (way : Option WayIn) : Type 0 where
+  pub verdict : Verdict
+  pub is_verdict : IsVerdict folder modules name at.kind verdict
+  pub adds : Adds (λ spot. ByVerdict at.service at.kind at.home verdict spot spot.problem) old new
+  pub asks : Adds (Asks (Some items) verdict) asked more
+  pub way_in : at.kind ≡ Auth → HasWayIn verdict way
+
+-- the same, with all problems of the stack
+pub record Looks (folder : Folder) (modules : Modules) (name : List ℕ) (service : ℕ) (kind : Kind) (survey : SurveyText)
+    (spots asked more : List Spot) (way : Option WayIn) : Type 0 where
+  pub verdict : Verdict
+  pub is_verdict : IsVerdict folder modules name kind verdict
+  pub adds : Adds (InStack modules service name kind survey verdict) [] spots
+  pub asks : Adds (Asks survey.items verdict) asked more
+  pub way_in : kind ≡ Auth → HasWayIn verdict way

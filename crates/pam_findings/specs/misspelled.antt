@@ -1,0 +1,10 @@
+pub mod Actions
+pub mod Findings
+pub mod Laws
+pub mod Lines
+pub mod Misspelled
+pub mod MisspelledView
+pub mod Pairs
+pub mod Paths
+pub mod RightWords
+pub mod inner

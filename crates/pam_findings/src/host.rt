@@ -1,0 +1,33 @@
+//! A whole host: every service and kind of a configuration, and what is wrong with it. Each line with a fault is found once,
+//! however many stacks meet it.
+#![tactic(auto)]
+
+mod arguments;
+mod beside;
+mod callers;
+mod cut_off;
+mod folder;
+mod inside;
+mod judging;
+mod known_modules;
+pub mod laws;
+mod level;
+mod met;
+mod modules;
+mod names;
+mod own;
+mod problem;
+mod readers;
+mod report;
+mod separators;
+mod stacks;
+mod table;
+mod vendor;
+mod walk;
+mod way_in;
+
+pub use level::Level;
+pub use met::Met;
+pub use problem::{ArgumentProblem, Place, Problem, Spot};
+pub use report::{Finding, HostReport};
+pub use way_in::{Answered, WayIn};

@@ -1,0 +1,88 @@
+//! The arguments of a rule that its module does not take as they are written.
+
+ghost use Rattle.std.specs.Prelude.{◌≡◌, OnOk, Some};
+ghost use Rattle.std.specs.Option.{option_map};
+ghost use Rattle.pam_arguments.specs.Views.{module_view, verdict_view};
+ghost use Rattle.pam_conf.specs.ItemsOf.{module_text};
+ghost use Rattle.pam_findings.specs.host.Arguments.{known_of, wrong_by};
+ghost use Rattle.pam_findings.specs.host.inner.WrongArguments.{OfArguments, OfKnown, OfWrong};
+ghost use Rattle.pam_findings.specs.host.inner.Table.{Adds};
+
+use crate::host::modules::spot_of;
+use crate::host::problem::{ArgumentProblem, Problem, Spot};
+use pam_arguments::{Arguments, Module as Known, Verdict};
+use pam_conf::{Kind, Module};
+use pam_facts::module_name;
+use std::alloc::AllocError;
+
+/// What is wrong with an argument of which its module makes this.
+fn wrong_by(verdict: Verdict<'_>) -> Option<ArgumentProblem>
+    ensures { result ≡ wrong_by (verdict_view verdict.entry) }
+{
+    match verdict {
+        Verdict::Known | Verdict::Free => None,
+        Verdict::Unknown(reaction) => Some(ArgumentProblem::Unknown(reaction)),
+        Verdict::Longer(_) => Some(ArgumentProblem::Longer),
+        Verdict::OtherKind => Some(ArgumentProblem::OtherKind),
+        Verdict::BadValue(_) => Some(ArgumentProblem::BadValue),
+    }
+}
+
+/// Appends what is wrong with the argument at a position, if something is.
+fn push_argument(
+    spots: &mut Vec<Spot>,
+    module: &Module,
+    argument: usize,
+    wrong: Option<ArgumentProblem>,
+) -> Result<(), AllocError>
+    ensures { OnOk result (Adds (OfWrong (module_text «module».now) argument wrong) spots.old.items spots.new.items) }
+{
+    if let Some(wrong) = wrong {
+        let problem = Problem::Argument { argument, wrong };
+        spots.push(spot_of(module, problem))?;
+    }
+    Ok(())
+}
+
+/// Appends the wrong arguments of a rule of a module of which this is known.
+fn push_known(
+    spots: &mut Vec<Spot>,
+    known: &Known<'_>,
+    kind: Kind,
+    module: &Module,
+) -> Result<(), AllocError>
+    ensures { OnOk result (Adds (OfKnown (Some (module_view known.now)) kind (module_text «module».now)) spots.old.items spots.new.items) }
+{
+    // The number says that positions stay in their type.
+    let _count = module.arguments.len();
+    for (position, word) in module.arguments.iter().enumerate() {
+        let wrong = wrong_by(known.judge(kind, word));
+        push_argument(spots, module, position, wrong)?;
+    }
+    Ok(())
+}
+
+/// What is known of the arguments of a rule's module.
+fn known_of(arguments: &Arguments, module: &Module) -> Option<Known<'static>>
+    ensures { option_map module_view result ≡ known_of (module_text «module».now) }
+{
+    match module_name(&module.path) {
+        Some(name) => arguments.of(name),
+        None => None,
+    }
+}
+
+/// Appends the wrong arguments of a rule: S15 to S18.
+pub(crate) fn push_arguments(
+    spots: &mut Vec<Spot>,
+    arguments: &Arguments,
+    kind: Kind,
+    module: &Module,
+) -> Result<(), AllocError>
+    ensures { OnOk result (Adds (OfArguments kind (module_text «module».now)) spots.old.items spots.new.items) }
+{
+    match known_of(arguments, module) {
+        Some(known) => push_known(spots, &known, kind, module),
+        None => Ok(()),
+    }
+}

@@ -1,0 +1,88 @@
+//! Modules that look at the user of the calling process, and the services in which that user is whoever asks.
+
+ghost use Rattle.std.specs.Prelude.{◌≡◌, map};
+ghost use Rattle.std.specs.List.{list_any};
+ghost use Rattle.std.specs.Str.{bytes_eq};
+ghost use Rattle.pam_conf.specs.ItemsOf.{module_text};
+ghost use Rattle.pam_findings.specs.host.Callers.{asks_caller, asks_caller_by, caller_is_root, is_user_service, user_services};
+
+use pam_conf::{Kind, Module};
+use pam_facts::module_name;
+use pam_text::Texts;
+
+/// The services of programs that users start themselves: set-user-ID programs, and tools of root.
+static USER_SERVICES: [&[u8]; 21] = [
+    b"su",
+    b"su-l",
+    b"runuser",
+    b"runuser-l",
+    b"sudo",
+    b"sudo-i",
+    b"pkexec",
+    b"polkit-1",
+    b"passwd",
+    b"chsh",
+    b"chfn",
+    b"chpasswd",
+    b"newusers",
+    b"useradd",
+    b"userdel",
+    b"usermod",
+    b"groupadd",
+    b"groupdel",
+    b"groupmod",
+    b"at",
+    b"crontab",
+];
+
+#[tactic(auto, unfolding(crate::specs::host::Callers::user_services))]
+fn user_services() -> &'static [&'static [u8]]
+    ensures { map (λ service. service.now) result.now ≡ user_services }
+{
+    &USER_SERVICES
+}
+
+fn is_among(services: &[&[u8]], service: &[u8]) -> bool
+    ensures { result ≡ list_any (λ known. bytes_eq service.now known.now) services.now }
+{
+    services.iter().any(|known| service == *known)
+}
+
+fn is_user_service(service: &[u8]) -> bool
+    ensures { result ≡ is_user_service service.now }
+{
+    is_among(user_services(), service)
+}
+
+fn has_argument(wanted: &[u8], arguments: &Texts) -> bool
+    ensures { result ≡ list_any (λ argument. bytes_eq argument wanted.now) arguments.now }
+{
+    arguments.iter().any(|argument| argument == wanted)
+}
+
+/// Whether a module of this name looks at the user of the process.
+fn asks_caller_by(name: &[u8], arguments: &Texts) -> bool
+    ensures { result ≡ asks_caller_by arguments.now name.now }
+{
+    name == b"pam_rootok".as_slice()
+        || (name == b"pam_succeed_if".as_slice() || name == b"pam_usertype".as_slice())
+            && has_argument(b"use_uid", arguments)
+        || name == b"pam_wheel".as_slice() && has_argument(b"trust", arguments)
+}
+
+/// Whether a module looks at the user of the process.
+fn asks_caller(module: &Module) -> bool
+    ensures { result ≡ asks_caller (module_text «module».now) }
+{
+    match module_name(&module.path) {
+        Some(name) => asks_caller_by(name, &module.arguments),
+        None => false,
+    }
+}
+
+/// Whether a module looks at the user of the process, and that is always root: S14.
+pub(crate) fn caller_is_root(kind: Kind, service: &[u8], module: &Module) -> bool
+    ensures { result ≡ caller_is_root kind service.now (module_text «module».now) }
+{
+    kind == Kind::Auth && !is_user_service(service) && asks_caller(module)
+}

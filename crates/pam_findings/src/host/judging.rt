@@ -1,0 +1,151 @@
+//! The verdict on a stack.
+
+ghost use Rattle.std.specs.Prelude.{◌≡◌, IfOk, IsFalse, IsSome, IsTrue, List, OnOk, Ok, ℕ, true};
+ghost use Rattle.pam_conf.specs.Files.{Folder};
+ghost use Rattle.pam_conf.specs.Resolution.{resolved};
+ghost use Rattle.pam_paths.specs.declared.knowledge.Known.{Known as KnownText};
+ghost use Rattle.pam_findings.specs.host.inner.Looked.{Judges, judgement_of};
+ghost use Rattle.pam_findings.specs.host.StackProblems.{ByVerdict, HasWayIn};
+ghost use Rattle.pam_findings.specs.host.inner.Table.{Adds};
+ghost use Rattle.pam_findings.specs.host.Verdicts.{HasOther, Judged};
+
+use crate::host::known_modules::Modules;
+use crate::host::modules::{has_other, push_asked, push_jumps};
+use crate::host::problem::{Problem, Spot};
+use crate::host::way_in::{WayIn, answers_on};
+use crate::stack::Soundness;
+use pam_conf::{Kind, Stack};
+use pam_graph::GraphError;
+use pam_paths::Known;
+use std::alloc::{AllocError, Global};
+
+/// The service and the kind of a stack, and the file of its first rules.
+#[derive(Clone, Copy)]
+pub(crate) struct Stacked {
+    pub service: usize,
+    pub kind: Kind,
+    pub home: Option<usize>,
+}
+
+/// Appends a problem of the whole stack, if it has it.
+pub(crate) fn push_whole(
+    spots: &mut Vec<Spot>,
+    at: Stacked,
+    has: bool,
+    problem: Problem,
+) -> Result<(), AllocError>
+    ensures { OnOk result (Adds (λ spot. (has ≡ true) × (spot ≡ record { file = at.home; line = 0; problem = problem })) spots.old.items spots.new.items) }
+{
+    if has {
+        spots.push(Spot {
+            file: at.home,
+            line: 0,
+            problem,
+        })?;
+    }
+    Ok(())
+}
+
+/// Whether a stack lets nobody in, although it has a module that neither denies nor only warns.
+fn lets_nobody_in(stack: &Stack, soundness: &Soundness) -> bool
+    ensures yes { IsTrue result → (soundness.now.lets_nobody_in ≡ true) × HasOther stack.now }
+    ensures no { IsFalse result → soundness.now.lets_nobody_in ≡ true → HasOther stack.now → ⊥ }
+{
+    soundness.lets_nobody_in && has_other(stack)
+}
+
+/// Whether a stack of `auth` lets anybody in.
+fn lets_anybody_in(kind: Kind, soundness: &Soundness) -> bool
+    ensures yes { IsTrue result → (kind ≡ Kind.Auth) × IsSome soundness.now.lets_anybody_in }
+    ensures no { IsFalse result → kind ≡ Kind.Auth → IsSome soundness.now.lets_anybody_in → ⊥ }
+{
+    kind == Kind::Auth && soundness.lets_anybody_in.is_some()
+}
+
+/// Appends S1, S2 and S4 of a stack.
+fn push_judged(
+    spots: &mut Vec<Spot>,
+    at: Stacked,
+    stack: &Stack,
+    soundness: &Soundness,
+) -> Result<(), AllocError>
+    ensures { (free failing : KnownText) → OnOk result (Adds
+        (λ spot. ByVerdict at.service at.kind at.home (Judged (judgement_of stack.now free failing soundness.now)) spot spot.problem)
+        spots.old.items spots.new.items) }
+{
+    let nobody = lets_nobody_in(stack, soundness);
+    let anybody = lets_anybody_in(at.kind, soundness);
+    push_whole(
+        spots,
+        at,
+        nobody,
+        Problem::LetsNobodyIn {
+            service: at.service,
+            kind: at.kind,
+        },
+    )?;
+    push_whole(
+        spots,
+        at,
+        anybody,
+        Problem::LetsAnybodyIn {
+            service: at.service,
+        },
+    )?;
+    push_jumps(spots, stack, &soundness.jumps_past_end)?;
+    Ok(())
+}
+
+/// The first way into a stack of `auth`, if there is one; `None` for the other kinds.
+fn way_into(
+    alloc: Global,
+    kind: Kind,
+    stack: Stack,
+    failing: &Known,
+    soundness: &Soundness,
+) -> Result<Option<WayIn>, AllocError>
+    ensures { (free : KnownText) →
+        IfOk result (λ way. kind ≡ Kind.Auth → HasWayIn (Judged (judgement_of stack free failing.now soundness.now)) way) }
+{
+    if kind != Kind::Auth {
+        return Ok(None);
+    }
+    let Some(path) = &soundness.lets_anybody_in else {
+        return Ok(None);
+    };
+    let answers = answers_on(alloc, failing, path)?;
+    Ok(Some(WayIn { stack, answers }))
+}
+
+/// Judges a stack, and appends its problems by the verdict, and the rules that it may ask.
+pub(crate) fn judge(
+    alloc: Global,
+    spots: &mut Vec<Spot>,
+    asked: &mut Vec<Spot>,
+    modules: &Modules<'_, '_>,
+    at: Stacked,
+    stack: Stack,
+) -> Result<Option<WayIn>, AllocError>
+    ensures { (folder : Folder) (name : List ℕ) → resolved folder name at.kind ≡ Ok stack →
+        IfOk result (Judges folder modules.now name at stack spots.old.items spots.new.items asked.old.items asked.new.items) }
+{
+    let free = modules.answers(&stack, at.kind);
+    let failing = modules.answers_if_checks_fail(&stack, at.kind);
+    match Soundness::of(alloc, &stack, &free, &failing) {
+        Ok(soundness) => {
+            push_judged(spots, at, &stack, &soundness)?;
+            push_asked(asked, &stack, &soundness.never_asked)?;
+            way_into(alloc, at.kind, stack, &failing, &soundness)
+        }
+        Err(GraphError::Memory) => Err(AllocError),
+        Err(GraphError::TooManyNodes) => {
+            let problem = Problem::TooLarge {
+                service: at.service,
+                kind: at.kind,
+            };
+            push_whole(spots, at, true, problem)?;
+            push_asked(asked, &stack, &[])?;
+            Ok(None)
+        }
+    }
+}

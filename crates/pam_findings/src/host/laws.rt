@@ -1,0 +1,17 @@
+//! Laws of the definitions that the contracts cite: each is the contract of an empty function.
+
+ghost use Rattle.pam_findings.specs.host.Laws.{FirstWayLetsIn, SilentHostIsSound, WaysInLetIn};
+
+/// On a host with no finding at or above warning, each service that was checked has for each kind an accepted stack. Some
+/// answers of its modules let somebody in, unless they only deny and warn. If it is one of `auth`, no answers let in anybody
+/// whose checks all fail.
+pub fn a_silent_host_is_sound()
+    ensures { SilentHostIsSound }
+{}
+
+/// The answers of a way in are ones that the modules may give although each check fails. The stack then asks just these modules, in
+/// this order, and decides success.
+pub fn a_way_in_lets_in()
+    ensures first { FirstWayLetsIn }
+    ensures each { WaysInLetIn }
+{}

@@ -1,0 +1,79 @@
+//! How grave a finding is.
+
+ghost use Rattle.std.specs.Prelude.{◌≡◌};
+ghost use Rattle.pam_findings.specs.host.Levels.{level_of, level_of_argument, level_of_difference, level_of_fault};
+
+use crate::host::problem::{ArgumentProblem, Problem};
+use pam_arguments::Reaction;
+use pam_conf::FaultKind;
+use pam_released::Difference;
+
+/// How grave a finding is, from the least to the most.
+#[derive(Clone, Copy, Debug, PartialEq, Eq)]
+pub enum Level {
+    Note,
+    Warning,
+    Error,
+}
+
+fn level_of_fault(fault: FaultKind) -> Level
+    ensures { result ≡ level_of_fault fault }
+{
+    match fault {
+        FaultKind::BadTarget => Level::Warning,
+        _ => Level::Error,
+    }
+}
+
+fn level_of_difference(difference: Difference) -> Level
+    ensures { result ≡ level_of_difference difference }
+{
+    match difference {
+        Difference::DroppedBlank => Level::Note,
+        _ => Level::Warning,
+    }
+}
+
+fn level_of_argument(wrong: ArgumentProblem) -> Level
+    ensures { result ≡ level_of_argument wrong }
+{
+    match wrong {
+        ArgumentProblem::Unknown(Reaction::Ignores) | ArgumentProblem::OtherKind => Level::Note,
+        ArgumentProblem::Unknown(_) | ArgumentProblem::Longer | ArgumentProblem::BadValue =>
+            Level::Warning,
+    }
+}
+
+impl Problem {
+    /// How grave the problem is.
+    pub fn level(self) -> Level
+        ensures { result ≡ level_of self }
+    {
+        match self {
+            Problem::Fault(fault) | Problem::Walk(fault) => level_of_fault(fault),
+            Problem::Released(difference) => level_of_difference(difference),
+            Problem::Argument { wrong, .. } => level_of_argument(wrong),
+            Problem::IncludedFromVendor {
+                is_at_include: true,
+            } => Level::Error,
+            Problem::NeverAsked
+            | Problem::NoOther
+            | Problem::OtherAnswers { .. }
+            | Problem::LeftOver
+            | Problem::CallerIsRoot
+            | Problem::NoModule { is_dashed: true } => Level::Note,
+            Problem::IncludedFromVendor {
+                is_at_include: false,
+            }
+            | Problem::EmptySeparator
+            | Problem::LetsNobodyIn { .. }
+            | Problem::LetsAnybodyIn { .. }
+            | Problem::JumpPastEnd
+            | Problem::JumpIntoInclude
+            | Problem::NoModule { is_dashed: false }
+            | Problem::UnreachableName
+            | Problem::TooLarge { .. }
+            | Problem::NoFunction => Level::Warning,
+        }
+    }
+}

@@ -1,0 +1,270 @@
+//! What can be wrong with a host, and where.
+
+ghost use Rattle.std.specs.Prelude.{◌≡◌, ◌≤◌};
+ghost use Rattle.pam_findings.specs.host.Problems.{kind_of, number_of_kind, number_of_reaction, place_of, rank_of, rank_of_argument};
+ghost use Rattle.pam_findings.specs.host.Problems.{rank_of_control, rank_of_fault, reaction_of, service_of};
+
+use pam_arguments::Reaction;
+use pam_codes::ControlError;
+use pam_conf::{FaultKind, Kind};
+use pam_released::Difference;
+
+/// What is wrong with an argument of a rule.
+#[derive(Clone, Copy, Debug, PartialEq, Eq)]
+pub enum ArgumentProblem {
+    /// S15: the module does not know it.
+    Unknown(Reaction),
+    /// S16: the module takes it for another one, since it begins so.
+    Longer,
+    /// S17: the module knows it, but not in this kind.
+    OtherKind,
+    /// S18: the module does not take its value.
+    BadValue,
+}
+
+/// What is wrong.
+#[derive(Clone, Copy, Debug, PartialEq, Eq)]
+pub enum Problem {
+    /// E1 to E18: a fault of a line of a file, or of the file as a whole.
+    Fault(FaultKind),
+    /// E1 to E18: a fault of the walk from a service over its includes, at the line that is followed.
+    Walk(FaultKind),
+    /// L1 to L9: released Linux-PAM reads the line otherwise.
+    Released(Difference),
+    /// L10: a rule includes a file that only the vendor folder has, or has it as a substack.
+    IncludedFromVendor {
+        /// Whether the rule is an `@include`, which has no kind.
+        is_at_include: bool,
+    },
+    /// A5: an argument `fieldsep=` or `listsep=` of pam_access has no value, which released Linux-PAM reads otherwise.
+    EmptySeparator,
+    /// S1: a stack with another module than `pam_deny.so` and `pam_warn.so` never decides success.
+    LetsNobodyIn {
+        /// The position of the service in `HostReport::services`.
+        service: usize,
+        kind: Kind,
+    },
+    /// S2: the `auth` stack of a service decides success although each module that checks who logs in fails.
+    LetsAnybodyIn {
+        /// The position of the service in `HostReport::services`.
+        service: usize,
+    },
+    /// S3: no answers ask a module, in any stack that its rule is in.
+    NeverAsked,
+    /// S4: a module jumps past the end of its list.
+    JumpPastEnd,
+    /// S5: a module is not there.
+    NoModule {
+        /// Whether the kind of the rule has a dash, which says that the module may not be there.
+        is_dashed: bool,
+    },
+    /// S6: a folder has no `other`.
+    NoOther,
+    /// S7: the name of a file has a capital letter, but services are looked up in lowercase, and no rule includes the file.
+    UnreachableName,
+    /// S9: the graph of a stack has more nodes than the limit, so S1 to S4 are not known for it.
+    TooLarge {
+        /// The position of the service in `HostReport::services`.
+        service: usize,
+        kind: Kind,
+    },
+    /// S10: `other` answers for one of auth and account, though the service has rules for the other one.
+    OtherAnswers {
+        /// The position of the service in `HostReport::services`.
+        service: usize,
+        /// The kind for which `other` answers.
+        kind: Kind,
+    },
+    /// S11: the name of a file is that of a copy which an editor or a package left.
+    LeftOver,
+    /// S12: a jump lands inside what an include brought in.
+    JumpIntoInclude,
+    /// S13: a module has no function in the kind of its rule.
+    NoFunction,
+    /// S14: a module of an `auth` stack looks at the user of the calling process, which is always root in this service.
+    CallerIsRoot,
+    /// S15 to S18: an argument is not one that the module takes.
+    Argument {
+        /// The position of the argument in the rule, from 0.
+        argument: usize,
+        wrong: ArgumentProblem,
+    },
+}
+
+/// A problem at a line of a file.
+#[derive(Clone, Copy, Debug, PartialEq, Eq)]
+pub struct Spot {
+    /// The position of the file in `Files`; `None` for the configuration as a whole.
+    pub file: Option<usize>,
+    /// From 1; 0 for the file as a whole.
+    pub line: usize,
+    pub problem: Problem,
+}
+
+/// The place of a problem. Places are in the order in which findings are listed.
+#[derive(Clone, Copy, Debug, PartialEq, Eq, PartialOrd, Ord)]
+pub struct Place {
+    /// The position of the file in `Files`; `None` for the configuration as a whole.
+    pub file: Option<usize>,
+    /// From 1; 0 for the file as a whole.
+    pub line: usize,
+    /// Problems of one line are in the order of their ranks: faults of the line, those of walks, differences, and then the others.
+    pub rank: u8,
+    /// The service of a problem that names one, and the position of an argument; else 0.
+    pub service: usize,
+    /// The number of the kind of a problem that names one; 1 for L10 of an `@include` and for S5 of a dashed rule; for S15 the number
+    /// of what the module does; else 0.
+    pub kind: u8,
+}
+
+/// The number after `E`, from 4 to 8.
+fn rank_of_control(error: ControlError) -> u8
+    ensures { result ≡ rank_of_control error }
+{
+    match error {
+        ControlError::BadControl => 4,
+        ControlError::BadValue => 5,
+        ControlError::BadAction => 6,
+        ControlError::ZeroJump => 7,
+        ControlError::OpenBracket => 8,
+    }
+}
+
+/// The number after `E`.
+fn rank_of_fault(fault: FaultKind) -> u8
+    ensures value { result ≡ rank_of_fault fault }
+    ensures bound { result ≤ 18 }
+{
+    match fault {
+        FaultKind::NulByte => 1,
+        FaultKind::MissingField => 2,
+        FaultKind::BadKind => 3,
+        FaultKind::Control(error) => rank_of_control(error),
+        FaultKind::MissingTarget => 9,
+        FaultKind::BadTarget => 10,
+        FaultKind::Cycle => 11,
+        FaultKind::TooDeep => 12,
+        FaultKind::TooManyModules => 13,
+        FaultKind::IncludeInSingleFile => 14,
+        FaultKind::NoService => 15,
+        FaultKind::FileTooLong => 16,
+        FaultKind::Memory => 17,
+        FaultKind::TooManyFollowed => 18,
+    }
+}
+
+fn number_of_kind(kind: Kind) -> u8
+    ensures { result ≡ number_of_kind kind }
+{
+    match kind {
+        Kind::Auth => 0,
+        Kind::Account => 1,
+        Kind::Password => 2,
+        Kind::Session => 3,
+    }
+}
+
+fn number_of_reaction(reaction: Reaction) -> u8
+    ensures { result ≡ number_of_reaction reaction }
+{
+    match reaction {
+        Reaction::Ignores => 0,
+        Reaction::Logs => 1,
+        Reaction::Fails => 2,
+    }
+}
+
+/// What the module does, by its number, where it does not know an argument; else 0.
+fn reaction_of(wrong: ArgumentProblem) -> u8
+    ensures { result ≡ reaction_of wrong }
+{
+    match wrong {
+        ArgumentProblem::Unknown(reaction) => number_of_reaction(reaction),
+        ArgumentProblem::Longer | ArgumentProblem::OtherKind | ArgumentProblem::BadValue => 0,
+    }
+}
+
+fn rank_of_argument(wrong: ArgumentProblem) -> u8
+    ensures { result ≡ rank_of_argument wrong }
+{
+    match wrong {
+        ArgumentProblem::Unknown(_) => 75,
+        ArgumentProblem::Longer => 76,
+        ArgumentProblem::OtherKind => 77,
+        ArgumentProblem::BadValue => 78,
+    }
+}
+
+impl Problem {
+    #[tactic(auto, using(crate::proofs::HostProofs::Places::number_small))]
+    fn rank(self) -> u8
+        ensures { result ≡ rank_of self }
+    {
+        match self {
+            Problem::Fault(fault) => rank_of_fault(fault),
+            Problem::Walk(fault) => 20 + rank_of_fault(fault),
+            Problem::Released(difference) => 40 + difference.number(),
+            Problem::IncludedFromVendor { .. } => 50,
+            Problem::EmptySeparator => 55,
+            Problem::LetsNobodyIn { .. } => 61,
+            Problem::LetsAnybodyIn { .. } => 62,
+            Problem::NeverAsked => 63,
+            Problem::JumpPastEnd => 64,
+            Problem::NoModule { .. } => 65,
+            Problem::NoOther => 66,
+            Problem::UnreachableName => 67,
+            Problem::TooLarge { .. } => 69,
+            Problem::OtherAnswers { .. } => 70,
+            Problem::LeftOver => 71,
+            Problem::JumpIntoInclude => 72,
+            Problem::NoFunction => 73,
+            Problem::CallerIsRoot => 74,
+            Problem::Argument { wrong, .. } => rank_of_argument(wrong),
+        }
+    }
+
+    /// The fields `service` and `kind` of its place.
+    fn service_and_kind(self) -> (usize, u8)
+        ensures service { result.0 ≡ service_of self }
+        ensures kind { result.1 ≡ kind_of self }
+    {
+        match self {
+            Problem::LetsNobodyIn { service, kind }
+            | Problem::TooLarge { service, kind }
+            | Problem::OtherAnswers { service, kind } => (service, number_of_kind(kind)),
+            Problem::LetsAnybodyIn { service } => (service, 0),
+            Problem::IncludedFromVendor { is_at_include } => (0, u8::from(is_at_include)),
+            Problem::NoModule { is_dashed } => (0, u8::from(is_dashed)),
+            Problem::Argument { argument, wrong } => (argument, reaction_of(wrong)),
+            Problem::Fault(_)
+            | Problem::Walk(_)
+            | Problem::Released(_)
+            | Problem::EmptySeparator
+            | Problem::NeverAsked
+            | Problem::JumpPastEnd
+            | Problem::NoOther
+            | Problem::UnreachableName
+            | Problem::LeftOver
+            | Problem::JumpIntoInclude
+            | Problem::NoFunction
+            | Problem::CallerIsRoot => (0, 0),
+        }
+    }
+}
+
+impl Spot {
+    /// The place of the problem.
+    #[tactic(auto, unfolding(crate::specs::host::Problems::place_of))]
+    pub fn place(self) -> Place
+        ensures { result ≡ place_of self }
+    {
+        let (service, kind) = self.problem.service_and_kind();
+        Place {
+            file: self.file,
+            line: self.line,
+            rank: self.problem.rank(),
+            service,
+            kind,
+        }
+    }
+}

@@ -1,0 +1,102 @@
+//! The findings of a host.
+
+ghost use Rattle.std.specs.Prelude.{◌≡◌, IfOk};
+ghost use Rattle.std.specs.Option.{option_map};
+ghost use Rattle.pam_findings.specs.host.Report.{IsReport};
+ghost use Rattle.pam_conf.specs.Services.{checked_services};
+
+use crate::host::beside::Beside;
+use crate::host::cut_off::push_cut_off;
+use crate::host::folder::put_folder;
+use crate::host::known_modules::Modules;
+use crate::host::met::Met;
+use crate::host::own::put_files;
+use crate::host::problem::{Place, Problem};
+use crate::host::stacks::{Checker, Found};
+use crate::host::table::remove_all;
+use crate::host::way_in::WayIn;
+use pam_arguments::Arguments;
+use pam_conf::{Files, RuleFiles, checked_services};
+use pam_facts::Facts;
+use pam_text::Texts;
+use std::alloc::{AllocError, Global};
+use std::collections::BTreeMap;
+
+/// A problem, and the stacks that meet it; `None` for S6, S7 and S11, which are met by none.
+#[derive(Clone, Copy, Debug, PartialEq, Eq)]
+pub struct Finding {
+    pub problem: Problem,
+    pub met: Option<Met>,
+}
+
+/// What is wrong with a host.
+#[derive(Drop)]
+pub struct HostReport {
+    /// The services that were checked, in lowercase.
+    pub services: Texts,
+    /// The findings, in order, each once.
+    pub found: BTreeMap<Place, Finding>,
+    /// For each service, by its position, the first way in of its `auth` stack; `Some` where S2 is found.
+    pub ways_in: Vec<Option<WayIn>>,
+}
+
+impl HostReport {
+    /// Checks these services, each for all four kinds; if none is named, every service of the configuration.
+    ///
+    /// In a folder each file is a service, but for those whose names have a capital letter or are left over (S11). In pam.conf
+    /// each service that a rule names is one. If there is none, `other` is checked. Where it is not, the faults of its files and its
+    /// walks are met by each stack of their kinds, since Linux-PAM reads them whichever service is asked for. Each file is read once. Takes time in
+    /// proportion to the files, for each rule that the stacks walk to the facts and to `there`, and for each name with a capital
+    /// letter to the rules.
+    ///
+    /// `there` has the paths at which a module is there, as rules write them. A module that is not there (S5) answers
+    /// `module_unknown` alone. With `None` that is not known, and each is taken to be there.
+    ///
+    /// From the position `vendor_start` on the files are those that only the vendor folder has, which no rule is to include (L10). Where
+    /// there is no such folder, it is the number of files.
+    pub fn of(
+        alloc: Global,
+        files: &Files,
+        vendor_start: usize,
+        named: &Texts,
+        facts: &Facts<'_>,
+        there: Option<&Texts>,
+    ) -> Result<HostReport, AllocError>
+        ensures services { IfOk result (λ r. r.services ≡ checked_services files.now named.now) }
+        ensures report { IfOk result (λ r. IsReport files.now vendor_start named.now facts.now (option_map (λ t. t.now) there.entry)
+            r.found r.ways_in.items) }
+    {
+        let rules = RuleFiles::read(alloc, files)?;
+        let services = checked_services(alloc, files, &rules, named)?;
+        let mut found = Found::nothing(alloc, files.len())?;
+        let beside = Beside::of(alloc, &rules, &services)?;
+        let arguments = Arguments::table(alloc)?;
+        let modules = Modules::new(facts, &arguments, there);
+        let checker = Checker {
+            alloc,
+            files,
+            rules: &rules,
+            vendor_start,
+            beside: &beside,
+            modules: &modules,
+        };
+        let ways_in = checker.add_all(&mut found, &services)?;
+        let Found {
+            mut table,
+            mut asked,
+            readers,
+            cut_off,
+        } = found;
+        push_cut_off(alloc, &mut asked, &rules, cut_off)?;
+        remove_all(&mut table, &asked);
+        put_files(&checker, &readers, &mut table)?;
+        put_folder(&mut table, files, &rules, named)?;
+        // The length says that the entries are in order.
+        let _count = table.len();
+        Ok(HostReport {
+            services,
+            found: table,
+            ways_in,
+        })
+    }
+}

@@ -1,0 +1,108 @@
+//! The words that are wrong at findings.
+
+ghost use Rattle.std.specs.Prelude.{◌≡◌, ℕ, IfOk, List, OnOk, Option, map};
+ghost use Rattle.std.specs.Option.{option_map};
+ghost use Rattle.pam_findings.specs.misspelled.Findings.{misspelled_at, right_names, wrong_of};
+ghost use Rattle.pam_findings.specs.misspelled.MisspelledView.{misspelled_view};
+ghost use Rattle.pam_findings.specs.misspelled.inner.MisspelledView.{right_view};
+ghost use Rattle.pam_findings.specs.misspelled.inner.Reading.{IsReading};
+
+use crate::host::{Finding, Place, Problem};
+use crate::misspelled::reader::Reader;
+use crate::misspelled::right_words::{first_modules, first_names};
+use crate::misspelled::word::{Misspelled, RightNames, Wrong, misspelled_in};
+use pam_arguments::Arguments;
+use pam_conf::Files;
+use pam_text::Texts;
+use std::alloc::{AllocError, Global};
+
+fn wrong_of(problem: Problem) -> Option<Wrong>
+    ensures { result ≡ wrong_of problem }
+{
+    match problem {
+        Problem::Fault(fault) | Problem::Walk(fault) => Some(Wrong::Fault(fault)),
+        Problem::NoModule { .. } => Some(Wrong::NoModule),
+        Problem::Argument { argument, wrong } => Some(Wrong::Argument(argument, wrong)),
+        Problem::Released(_)
+        | Problem::IncludedFromVendor { .. }
+        | Problem::EmptySeparator
+        | Problem::LetsNobodyIn { .. }
+        | Problem::LetsAnybodyIn { .. }
+        | Problem::NeverAsked
+        | Problem::JumpPastEnd
+        | Problem::NoOther
+        | Problem::UnreachableName
+        | Problem::TooLarge { .. }
+        | Problem::OtherAnswers { .. }
+        | Problem::LeftOver
+        | Problem::JumpIntoInclude
+        | Problem::NoFunction
+        | Problem::CallerIsRoot => None,
+    }
+}
+
+/// The word that is wrong at a finding.
+#[tactic(auto, unfolding(crate::specs::misspelled::Findings::misspelled_at))]
+fn misspelled_at(
+    alloc: Global,
+    right: &RightNames<'_>,
+    reader: &mut Reader<'_>,
+    entry: &(Place, Finding),
+) -> Result<Option<Misspelled>, AllocError>
+    requires reading { IsReading reader.old }
+    ensures word { (there : Option (List (List ℕ))) → right_view right.now ≡ right_names reader.old.files.now there →
+        IfOk result (λ m. option_map misspelled_view m ≡ misspelled_at reader.old.files.now there entry.now) }
+    ensures reading { OnOk result (IsReading reader.new) }
+    ensures same { OnOk result (reader.new.files ≡ reader.old.files) }
+{
+    let Some(wrong) = wrong_of(entry.1.problem) else {
+        return Ok(None);
+    };
+    reader.seek(entry.0.file, entry.0.line)?;
+    match reader.line(entry.0.line) {
+        Some(line) => misspelled_in(alloc, right, reader.form(), line, wrong),
+        None => Ok(None),
+    }
+}
+
+/// The right words, with what is known of the arguments of modules.
+fn right_names<'a>(
+    alloc: Global,
+    files: &'a Files,
+    there: Option<&'a Texts>,
+    arguments: &'a Arguments,
+) -> Result<RightNames<'a>, AllocError>
+    ensures { IfOk result (λ right. right_view right ≡ right_names files.now (option_map (λ t. t.now) there.entry)) }
+{
+    Ok(RightNames {
+        files: first_names(alloc, files)?,
+        modules: first_modules(alloc, there)?,
+        arguments,
+    })
+}
+
+/// Returns for each finding the word that is wrong, with the nearest right word. A kind (E3), a control that is none at all (E4), and a
+/// return code and an action in brackets (E5, E6) are compared without case with those of pam.conf(5), the name of a target that is not
+/// there (E15) with the names of the first 1,000 files, the name of a module that is not there (S5) with the first 1,000 of the paths
+/// in `there`, and an argument (S15, S16) with those that its module knows. `None` for a finding that is not about a word.
+///
+/// Takes time linear in the files and the findings, if the findings are in the order of their places.
+pub fn misspelled_words(
+    alloc: Global,
+    files: &Files,
+    there: Option<&Texts>,
+    found: &[(Place, Finding)],
+) -> Result<Vec<Option<Misspelled>>, AllocError>
+    ensures { IfOk result (λ words. map (option_map misspelled_view) words.items
+        ≡ map (misspelled_at files.now (option_map (λ t. t.now) there.entry)) found.now) }
+{
+    let arguments = Arguments::table(alloc)?;
+    let right = right_names(alloc, files, there, &arguments)?;
+    let mut reader = Reader::new(alloc, files);
+    let mut words = Vec::new(alloc);
+    for entry in found {
+        let word = misspelled_at(alloc, &right, &mut reader, entry)?;
+        words.push(word)?;
+    }
+    Ok(words)
+}

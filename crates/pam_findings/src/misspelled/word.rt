@@ -1,0 +1,220 @@
+//! The word that is wrong in a line.
+
+ghost use Rattle.std.specs.Prelude.{◌≡◌, IfOk};
+ghost use Rattle.std.specs.Option.{option_map};
+ghost use Rattle.pam_findings.specs.misspelled.Misspelled.{fault_word, misspelled_argument, misspelled_in, nearest_by, nearest_known, nearest_to};
+ghost use Rattle.pam_findings.specs.misspelled.Misspelled.{of_argument, with_nearest, wrong_word};
+ghost use Rattle.pam_findings.specs.misspelled.MisspelledView.{misspelled_view};
+ghost use Rattle.pam_findings.specs.misspelled.inner.MisspelledView.{right_view};
+
+use crate::host::ArgumentProblem;
+use crate::misspelled::pairs::wrong_in;
+use crate::misspelled::path::{argument_in, path_in};
+use crate::misspelled::right_words::{nearest_module, nearest_right};
+use pam_arguments::Arguments;
+use pam_codes::ControlError;
+use pam_conf::{FaultKind, Form, word_at_fault};
+use pam_facts::known::name_of_path;
+use pam_facts::module_name;
+use std::alloc::{AllocError, Global};
+
+/// Why a word is wrong.
+#[derive(Clone, Copy)]
+pub(crate) enum Wrong {
+    /// The line has this fault.
+    Fault(FaultKind),
+    /// The module that the line names is not there.
+    NoModule,
+    /// This is wrong with the argument at a position.
+    Argument(usize, ArgumentProblem),
+}
+
+/// The names of files, the modules that are there, and the arguments that modules know.
+#[derive(Drop)]
+pub(crate) struct RightNames<'a> {
+    pub files: Vec<&'a [u8]>,
+    pub modules: Vec<&'a [u8]>,
+    pub arguments: &'a Arguments,
+}
+
+/// A word that is wrong in a line.
+#[derive(Drop)]
+pub struct Misspelled {
+    /// The name of the module of which the word is an argument; empty for another word.
+    pub module: Vec<u8>,
+    /// As it is written, but a kind without its dash, and a target without its folder.
+    pub word: Vec<u8>,
+    /// The nearest right word, if one is near.
+    pub nearest: Option<Vec<u8>>,
+}
+
+fn owned_if_any(alloc: Global, word: Option<&[u8]>) -> Result<Option<Vec<u8>>, AllocError>
+    ensures { IfOk result (λ owned. option_map (λ w. w.items) owned ≡ option_map (λ w. w.now) word.entry) }
+{
+    match word {
+        Some(word) => Ok(Some(Vec::from_slice(alloc, word)?)),
+        None => Ok(None),
+    }
+}
+
+fn nearest_to<'a>(
+    alloc: Global,
+    right: &RightNames<'a>,
+    wrong: Wrong,
+    word: &[u8],
+) -> Result<Option<&'a [u8]>, AllocError>
+    ensures { IfOk result (λ found. option_map (λ w. w.now) found ≡ nearest_to (right_view right.now) wrong word.now) }
+{
+    match wrong {
+        Wrong::Fault(fault) => nearest_right(alloc, &right.files, fault, word),
+        Wrong::NoModule => Ok(nearest_module(&right.modules, word)),
+        Wrong::Argument(..) => Ok(None),
+    }
+}
+
+/// A word that is wrong, with the nearest right word.
+fn with_nearest(
+    alloc: Global,
+    right: &RightNames<'_>,
+    wrong: Wrong,
+    word: &[u8],
+) -> Result<Misspelled, AllocError>
+    ensures { IfOk result (λ m. misspelled_view m ≡ with_nearest (right_view right.now) wrong word.now) }
+{
+    let nearest = owned_if_any(alloc, nearest_to(alloc, right, wrong, word)?)?;
+    Ok(Misspelled {
+        module: Vec::new(alloc),
+        word: Vec::from_slice(alloc, word)?,
+        nearest,
+    })
+}
+
+/// The word of a fault, of one in brackets a word of the control. Its text may replace the contents of `inside`.
+fn fault_word<'a>(
+    form: Form,
+    line: &'a [u8],
+    fault: FaultKind,
+    inside: &'a mut Vec<u8>,
+) -> Result<Option<&'a [u8]>, AllocError>
+    ensures { IfOk result (λ w. option_map (λ t. t.now) w ≡ fault_word form fault line.now) }
+{
+    let FaultKind::Control(error) = fault else {
+        return word_at_fault(form, line, fault, inside);
+    };
+    // A control that is none at all is the whole word, as it is written.
+    let whole = FaultKind::Control(ControlError::BadControl);
+    match word_at_fault(form, line, whole, inside)? {
+        Some(control) => Ok(wrong_in(error, control)),
+        None => Ok(None),
+    }
+}
+
+fn wrong_word<'a>(
+    form: Form,
+    line: &'a [u8],
+    wrong: Wrong,
+    inside: &'a mut Vec<u8>,
+) -> Result<Option<&'a [u8]>, AllocError>
+    ensures { IfOk result (λ w. option_map (λ t. t.now) w ≡ wrong_word form wrong line.now) }
+{
+    match wrong {
+        Wrong::Fault(fault) => fault_word(form, line, fault, inside),
+        Wrong::NoModule => path_in(form, line, inside),
+        Wrong::Argument(position, _) => argument_in(form, line, position, inside),
+    }
+}
+
+/// The nearest of the arguments that the module at a path knows.
+fn nearest_known(
+    alloc: Global,
+    arguments: &Arguments,
+    path: &[u8],
+    word: &[u8],
+) -> Result<Option<&'static [u8]>, AllocError>
+    ensures { IfOk result (λ found. option_map (λ w. w.now) found ≡ nearest_known path.now word.now) }
+{
+    let Some(name) = module_name(path) else {
+        return Ok(None);
+    };
+    match arguments.of(name) {
+        Some(known) => known.nearest(alloc, word),
+        None => Ok(None),
+    }
+}
+
+fn nearest_by(
+    alloc: Global,
+    arguments: &Arguments,
+    wrong: ArgumentProblem,
+    path: &[u8],
+    word: &[u8],
+) -> Result<Option<&'static [u8]>, AllocError>
+    ensures { IfOk result (λ found. option_map (λ w. w.now) found ≡ nearest_by wrong path.now word.now) }
+{
+    match wrong {
+        ArgumentProblem::Unknown(_) | ArgumentProblem::Longer => {
+            nearest_known(alloc, arguments, path, word)
+        }
+        ArgumentProblem::OtherKind | ArgumentProblem::BadValue => Ok(None),
+    }
+}
+
+/// An argument that is wrong, with the nearest right one.
+fn of_argument(
+    alloc: Global,
+    arguments: &Arguments,
+    wrong: ArgumentProblem,
+    path: &[u8],
+    word: &[u8],
+) -> Result<Misspelled, AllocError>
+    ensures { IfOk result (λ m. misspelled_view m ≡ of_argument wrong path.now word.now) }
+{
+    let nearest = owned_if_any(alloc, nearest_by(alloc, arguments, wrong, path, word)?)?;
+    Ok(Misspelled {
+        module: Vec::from_slice(alloc, name_of_path(path))?,
+        word: Vec::from_slice(alloc, word)?,
+        nearest,
+    })
+}
+
+/// The argument that is wrong in a line.
+fn misspelled_argument(
+    alloc: Global,
+    arguments: &Arguments,
+    form: Form,
+    line: &[u8],
+    position: usize,
+    wrong: ArgumentProblem,
+) -> Result<Option<Misspelled>, AllocError>
+    ensures { IfOk result (λ m. option_map misspelled_view m ≡ misspelled_argument form position wrong line.now) }
+{
+    let mut inside_path = Vec::new(alloc);
+    let mut inside = Vec::new(alloc);
+    let Some(path) = path_in(form, line, &mut inside_path)? else {
+        return Ok(None);
+    };
+    match argument_in(form, line, position, &mut inside)? {
+        Some(word) => Ok(Some(of_argument(alloc, arguments, wrong, path, word)?)),
+        None => Ok(None),
+    }
+}
+
+/// The word that is wrong in a line.
+pub(crate) fn misspelled_in(
+    alloc: Global,
+    right: &RightNames<'_>,
+    form: Form,
+    line: &[u8],
+    wrong: Wrong,
+) -> Result<Option<Misspelled>, AllocError>
+    ensures { IfOk result (λ m. option_map misspelled_view m ≡ misspelled_in (right_view right.now) form wrong line.now) }
+{
+    if let Wrong::Argument(position, problem) = wrong {
+        return misspelled_argument(alloc, right.arguments, form, line, position, problem);
+    }
+    let mut inside = Vec::new(alloc);
+    match wrong_word(form, line, wrong, &mut inside)? {
+        Some(word) => Ok(Some(with_nearest(alloc, right, wrong, word)?)),
+        None => Ok(None),
+    }
+}

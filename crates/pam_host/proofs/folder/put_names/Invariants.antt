@@ -1,8 +1,0 @@
-use Rattle.std.proofs.Common.{None}
-use Rattle.pam_host.specs.inner.OfFolder.{IsNameProblem}
-use Rattle.pam_host.specs.inner.Table.{Puts, with_met}
-use Rattle.pam_host.proofs.folder.put_names.Given as goal
-
--- the problems of the names so far are put
-abbrev pub invariant-loop-file : goal.invariant-loop-file
-invariant-loop-file l = Puts (IsNameProblem l.files l.file) (with_met None) l.initial.table l.table

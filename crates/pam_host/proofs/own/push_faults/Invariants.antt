@@ -1,6 +1,0 @@
-use Rattle.std.proofs.Common.{◌≡◌, ◌++◌, map, take}
-use Rattle.pam_host.specs.inner.Own.{fault_spot}
-use Rattle.pam_host.proofs.own.push_faults.Given as goal
-
-abbrev pub invariant-loop-fault : goal.invariant-loop-fault
-invariant-loop-fault l = l.spots.items ≡ l.initial.spots.items ++ map (fault_spot l.file) (take l.fault-index l.faults)

@@ -1,8 +1,0 @@
-use Rattle.std.proofs.Common.{take}
-use Rattle.pam_paths.specs.Classes.{Member}
-use Rattle.pam_host.specs.inner.Table.{Notes}
-use Rattle.pam_host.proofs.readers.note_all.Given as goal
-
--- the stack is noted at the files so far
-abbrev pub invariant-loop-file : goal.invariant-loop-file
-invariant-loop-file l = Notes (λ file. Member file (take l.file-index l.files)) l.service l.kind l.initial.readers l.readers

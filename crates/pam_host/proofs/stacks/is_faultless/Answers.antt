@@ -1,6 +1,0 @@
-use Rattle.std.proofs.Common.{refl}
-use Rattle.pam_host.proofs.FileNames.{faultless-none, seen-none}
-use Rattle.pam_host.proofs.stacks.is_faultless.Goals as goal
-
-pub returns-in-None : goal.returns-in-None
-returns-in-None c = (λ t. faultless-none c.args.rules.now c.args.file (seen-none _ c.faults.result _ c.faults.ensures c.in-None.is), λ f. refl)

@@ -1,9 +1,0 @@
-use Rattle.std.proofs.Common.{refl}
-use Rattle.pam_host.specs.inner.Table.{with_met}
-use Rattle.pam_host.proofs.Places.{put-at}
-use Rattle.pam_host.proofs.table.put.Goals as goal
-
-pub returns : goal.returns
-returns c =
-    put-at c.args.table.now c.insert.new.self c.args.spot c.place.result (record { problem = c.args.spot.problem; met = c.args.met })
-    (with_met c.args.met) c.place.ensures c.in_ok-insert.ensures.updates refl refl

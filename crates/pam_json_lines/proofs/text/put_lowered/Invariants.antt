@@ -1,9 +1,0 @@
--- the bytes so far are written
-use Rattle.std.proofs.Common.{map, take}
-use Rattle.std.specs.Char.{to_ascii_lowercase}
-use Rattle.json.specs.Print.{escape}
-use Rattle.pam_text.specs.Out.{TookAll}
-use Rattle.pam_json_lines.proofs.text.put_lowered.Given as goal
-
-abbrev pub invariant-loop-byte : goal.invariant-loop-byte
-invariant-loop-byte g l = TookAll g.W.Write.contents l.initial.out l.out (escape (map to_ascii_lowercase (take l.byte-index l.text)))

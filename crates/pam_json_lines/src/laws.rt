@@ -1,8 +1,0 @@
-//! A law of the definitions that the contracts cite: it is the contract of an empty function.
-
-ghost use Rattle.pam_json_lines.specs.Laws.{NoControlByte};
-
-/// No byte of a string is a control byte as JSON counts them, below 32, so none ends a line.
-pub fn no_string_ends_a_line()
-    ensures { NoControlByte }
-{}

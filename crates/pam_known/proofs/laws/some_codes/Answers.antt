@@ -1,8 +1,0 @@
-use Rattle.pam_known.proofs.SomeCodes.{known_lawful, known_some}
-use Rattle.pam_known.proofs.laws.some_codes.Goals as goal
-
-pub returns-clause-codes : goal.returns-clause-codes
-returns-clause-codes c = known_some
-
-pub returns-clause-lawful : goal.returns-clause-lawful
-returns-clause-lawful c = known_lawful

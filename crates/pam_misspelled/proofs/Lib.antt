@@ -1,4 +1,0 @@
-pub mod NearestNames
-pub mod ReadLines
-pub mod Readers
-pub mod Thirds

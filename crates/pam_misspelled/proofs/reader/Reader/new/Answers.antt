@@ -1,7 +1,0 @@
-use Rattle.std.proofs.Common.{◌∙◌, ap}
-use Rattle.pam_text.specs.Text.{text_of}
-use Rattle.pam_misspelled.proofs.ReadLines.{opened}
-use Rattle.pam_misspelled.proofs.reader.Reader.new.Goals as goal
-
-pub returns-clause-reading : goal.returns-clause-reading
-returns-clause-reading c = opened _ c.new-2.result.items _ (c.of.ensures ∙ ap (text_of 1) c.no_source.ensures)

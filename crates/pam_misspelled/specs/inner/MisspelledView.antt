@@ -1,8 +1,0 @@
--- For private contracts and proofs alone: the value of a word that is wrong, and of the right names.
-use Rattle.std.specs.Prelude.{map}
-use Rattle.pam_misspelled.specs.Misspelled.{Right}
-use Rattle.pam_misspelled.specs.declared.word.RightNames.{RightNames}
-
--- for private contracts alone
-abbrev pub right_view : RightNames → Right
-right_view right = record { files = map (λ name. name.now) right.files.items; modules = map (λ m. m.now) right.modules.items }

@@ -1,6 +1,0 @@
-use Rattle.std.proofs.Common.{◌≡◌, ◌++◌, drop}
-use Rattle.pam_old_tables.specs.Findings.{found_at}
-use Rattle.pam_old_tables.proofs.finding.push_those.Given as goal
-
-abbrev pub invariant-loop-holds : goal.invariant-loop-holds
-invariant-loop-holds l = l.findings.items ++ found_at l.line (drop l.holds-index l.tests) ≡ l.fn.findings.items ++ found_at l.line l.tests

@@ -1,5 +1,0 @@
-use Rattle.pam_old_tables.proofs.RowLemmas.{access_rows, time_rows}
-use Rattle.pam_old_tables.proofs.laws.each_finding_is_a_row.Goals as goal
-
-pub returns : goal.returns
-returns c = record { access = access_rows; time = time_rows }

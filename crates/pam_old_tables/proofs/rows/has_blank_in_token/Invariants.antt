@@ -1,9 +1,0 @@
-use Rattle.std.proofs.Common.{◌≡◌, length}
-use Rattle.pam_old_tables.specs.Access.{has_blank_in_token}
-use Rattle.pam_old_tables.proofs.rows.has_blank_in_token.Given as goal
-
-abbrev pub invariant-loop-text : goal.invariant-loop-text
-invariant-loop-text l = has_blank_in_token l.separators.bytes.now l.rest ≡ has_blank_in_token l.separators.bytes.now l.list
-
-abbrev pub decreases-loop-text : goal.decreases-loop-text
-decreases-loop-text l = length l.rest

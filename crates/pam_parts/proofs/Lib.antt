@@ -1,5 +1,0 @@
-mod ComparedLines
-mod FindingLines
-mod ItemLines
-mod PathLists
-pub mod Printed

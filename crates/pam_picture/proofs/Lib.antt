@@ -1,6 +1,0 @@
-mod Controls
-mod Lanes
-mod Noted
-mod Notes
-mod Ranges
-mod Rooms

@@ -1,8 +1,0 @@
--- no node so far asks the module
-use Rattle.std.proofs.Common.{◌≡◌, false, take}
-use Rattle.std.specs.List.{list_any}
-use Rattle.pam_picture.specs.Picture.{asks}
-use Rattle.pam_picture.proofs.heading.is_asked.Given as goal
-
-abbrev pub invariant-loop-node : goal.invariant-loop-node
-invariant-loop-node l = list_any (asks l.number) (take l.node-index l.nodes) ≡ false

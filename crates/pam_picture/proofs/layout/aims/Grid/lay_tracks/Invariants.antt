@@ -1,6 +1,0 @@
--- the lanes stay the same
-use Rattle.std.proofs.Common.{◌≡◌}
-use Rattle.pam_picture.proofs.layout.aims.Grid.lay_tracks.Given as goal
-
-abbrev pub invariant-loop-column : goal.invariant-loop-column
-invariant-loop-column l = l.self.lanes ≡ l.fn.self.lanes

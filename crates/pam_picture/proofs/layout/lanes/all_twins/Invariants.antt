@@ -1,6 +1,0 @@
--- the numbers so far can be counted on from
-use Rattle.pam_picture.specs.inner.Laned.{AreFew}
-use Rattle.pam_picture.proofs.layout.lanes.all_twins.Given as goal
-
-abbrev pub invariant-loop-index : goal.invariant-loop-index
-invariant-loop-index l = AreFew l.twins.items

@@ -1,8 +1,0 @@
-use Rattle.pam_codes.proofs.Writing.{writes-is}
-use Rattle.pam_picture.proofs.node.put_start.Goals as goal
-use Rattle.pam_picture.specs.Picture.{start_text}
-use Rattle.std.proofs.Common.{refl}
-
-pub returns : goal.returns
-unfolding start_text
-returns g c = writes-is _ _ _ _ _ _ c.put_marks.ensures (rw (c.point_of-point.ensures) refl)

@@ -1,4 +1,0 @@
--- What no public contract cites.
-pub mod Laned
-pub mod Marks
-pub mod Noted

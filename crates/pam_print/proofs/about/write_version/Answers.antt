@@ -1,8 +1,0 @@
-use Rattle.std.proofs.Common.{◌∙◌}
-use Rattle.pam_codes.proofs.Writing.{all-is, flushes-last}
-use Rattle.pam_print.proofs.ExplainTexts.{version-is}
-use Rattle.pam_print.proofs.about.write_version.Goals as goal
-
-pub returns : goal.returns
-returns g c =
-    flushes-last _ _ (all-is c.in_ok-put_line.ensures (version-is c.as_bytes.result.now (c.as_bytes.ensures.value ∙ c.version.ensures))) c.finish.ensures

@@ -1,9 +1,0 @@
-use Rattle.pam_codes.proofs.Writing.{writes-is}
-use Rattle.pam_explain.specs.Views.{explanation_view}
-use Rattle.pam_print.proofs.ExplainTexts.{rest-is}
-use Rattle.pam_print.proofs.explain.put_rest.Goals as goal
-
-pub returns : goal.returns
-returns g c =
-    writes-is _ _ _ _ _ _ c.put_line.ensures
-    (rest-is (explanation_view c.args.explanation.now) _ _ c.as_bytes.ensures.value c.as_bytes-2.ensures.value)

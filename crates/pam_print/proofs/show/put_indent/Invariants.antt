@@ -1,7 +1,0 @@
--- the levels so far are written
-use Rattle.pam_codes.specs.Out.{TookAll}
-use Rattle.pam_print.specs.Show.{indent}
-use Rattle.pam_print.proofs.show.put_indent.Given as goal
-
-abbrev pub invariant-loop : goal.invariant-loop
-invariant-loop g l = TookAll g.W.Write.contents l.initial.out l.out (indent l.counter)

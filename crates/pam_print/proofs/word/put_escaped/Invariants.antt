@@ -1,8 +1,0 @@
--- the bytes so far are written
-use Rattle.std.proofs.Common.{take}
-use Rattle.pam_codes.specs.Out.{TookAll}
-use Rattle.pam_print.specs.WordText.{escaped}
-use Rattle.pam_print.proofs.word.put_escaped.Given as goal
-
-abbrev pub invariant-loop-byte : goal.invariant-loop-byte
-invariant-loop-byte g l = TookAll g.W.Write.contents l.initial.out l.out (escaped (take l.byte-index l.text))

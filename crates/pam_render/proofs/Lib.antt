@@ -1,0 +1,5 @@
+pub mod JsonLinesProofs
+pub mod JsonTextProofs
+pub mod PartsProofs
+pub mod SentencesProofs
+pub mod TextProofs

@@ -1,0 +1,5 @@
+pub mod ComparedLines
+pub mod FindingLines
+pub mod ItemLines
+pub mod PathLists
+pub mod Printed

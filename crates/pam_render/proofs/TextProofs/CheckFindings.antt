@@ -1,0 +1,50 @@
+-- The line of a finding, part by part.
+use Rattle.std.proofs.Common.{◌≡◌, ◌∙◌, ℕ, List, [], ◌∷◌, ◌++◌, append_assoc, append-nil, codes, refl, Option}
+use Rattle.std.specs.Prelude.{decimal}
+use Rattle.std.specs.List.{concat, flat_map}
+use Rattle.pam_codes.specs.SetText.{name_of}
+use Rattle.pam_conf.specs.Stack.{Items}
+use Rattle.pam_findings.specs.host.Levels.{level_of}
+use Rattle.pam_findings.specs.declared.host.problem.Place.{Place}
+use Rattle.pam_findings.specs.declared.host.report.Finding.{Finding}
+use Rattle.pam_findings.specs.declared.host.way_in.Answered.{Answered}
+use Rattle.pam_facts.specs.known.Answers.{name_of_path}
+use Rattle.pam_findings.specs.misspelled.Misspelled.{MisspelledText}
+use Rattle.pam_report.specs.Decide.{path_at}
+use Rattle.pam_report.specs.Names.{problem_name}
+use Rattle.pam_render.specs.text.Check.{answer_text, answers_text, finding_line, next_answer, place_text, sentence}
+use Rattle.pam_render.specs.parts.Check.{Names}
+use Rattle.pam_render.specs.sentences.Shown.{shown_name}
+use Rattle.pam_render.specs.sentences.Sentences as say
+
+-- THE ANSWERS OF A WAY IN
+
+-- an answer, written in one line, a name and another line
+answer_parts : (number name code : List ℕ)
+    → (concat (codes " " ∷ number ∷ codes " " ∷ []) ++ name) ++ concat (codes " " ∷ code ∷ []) ≡ codes " " ++ number ++ codes " " ++ name ++ codes " " ++ code
+answer_parts number name code = simp (append_assoc, append-nil)
+
+pub answer_text-is : (items : Items) (a : Answered) (name code : List ℕ) → name ≡ name_of_path (path_at a.number items) → code ≡ name_of a.code
+    → (concat (codes " " ∷ decimal a.number ∷ codes " " ∷ []) ++ shown_name name) ++ concat (codes " " ∷ code ∷ []) ≡ answer_text items a
+unfolding answer_text
+answer_text-is items a name code e f = answer_parts (decimal a.number) (shown_name name) code ∙ rw (e, f) refl
+
+pub answers_text-is : (items : Items) (all : List Answered) (first : Answered) (others : List Answered) → all ≡ first ∷ others
+    → (codes ":" ++ answer_text items first) ++ flat_map (next_answer items) others ≡ answers_text items all
+unfolding answers_text
+answers_text-is items all first others e = rw e refl
+
+-- THE LINE
+
+-- a line, whose level and name are written together
+line_parts : (place level name said : List ℕ) → ((place ++ concat (level ∷ codes ": " ∷ name ∷ codes ": " ∷ [])) ++ said) ++ codes "\n"
+    ≡ place ++ level ++ codes ": " ++ name ++ codes ": " ++ said ++ codes "\n"
+line_parts place level name said = simp (append_assoc, append-nil)
+
+pub finding_line-is : (names : Names) (place : Place) (finding : Finding) (word : Option MisspelledText) (level name : List ℕ)
+    → level ≡ say.level_name (level_of finding.problem) → name ≡ problem_name finding.problem
+    → ((place_text names.paths place ++ concat (level ∷ codes ": " ∷ name ∷ codes ": " ∷ []))
+    ++ sentence names place.line finding.met finding.problem word) ++ codes "\n" ≡ finding_line names (place, finding) word
+unfolding finding_line
+finding_line-is names place finding word level name e f =
+    line_parts (place_text names.paths place) level name (sentence names place.line finding.met finding.problem word) ∙ rw (e, f) refl

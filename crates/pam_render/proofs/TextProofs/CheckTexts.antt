@@ -1,0 +1,47 @@
+-- The lines of `check`.
+use Rattle.std.proofs.Common.{◌≡◌, ◌∙◌, ℕ, List, [], ◌∷◌, ◌++◌, append-nil, append_assoc, codes, refl}
+use Rattle.std.specs.List.{concat}
+use Rattle.std.specs.Prelude.{decimal}
+use Rattle.pam_report.specs.TablePaths.{level_of_table_problem, table_problem_name}
+use Rattle.pam_findings.specs.declared.tables.problem.TableFinding.{TableFinding}
+use Rattle.pam_text.proofs.TextSteps.{unequal}
+use Rattle.pam_render.specs.text.Check.{counted, last_line, levels_text}
+use Rattle.pam_render.specs.sentences.Shown.{shown_name}
+use Rattle.pam_render.specs.text.Check.{table_heading, unused_line}
+use Rattle.pam_render.specs.parts.Check.{stacks_of}
+use Rattle.pam_render.specs.declared.parts.check.Counts.{Counts}
+use Rattle.pam_render.specs.sentences.Sentences as say
+
+-- NUMBERS
+
+-- none, or more than one
+pub counted-many : (count : ℕ) (name bytes : List ℕ) → (count ≡ 1 → ⊥) → bytes ≡ name
+    → concat (decimal count ∷ codes " " ∷ bytes ∷ []) ++ codes "s" ≡ counted count name
+counted-many count name bytes h e = rw (e, unequal count 1 h) (simp (append_assoc, append-nil))
+
+pub last_line-is : (services stacks : ℕ) (counts : Counts) → stacks ≡ stacks_of services
+    → codes "checked " ++ counted services (codes "service") ++ codes ", " ++ counted stacks (codes "stack") ++ codes ": " ++ levels_text counts
+    ++ codes "\n" ≡ last_line services counts
+unfolding last_line
+last_line-is services stacks counts e = rw e refl
+
+-- LINES OF THE ACCEPT FILE
+
+unused_parts : (accept line middle said : List ℕ)
+    → accept ++ concat (codes ":" ∷ line ∷ middle ∷ said ∷ codes "\n" ∷ []) ≡ accept ++ codes ":" ++ line ++ middle ++ said ++ codes "\n"
+unused_parts accept line middle said = simp (append_assoc, append-nil)
+
+pub unused_line-is : (accept : List ℕ) (line : ℕ)
+    → shown_name accept ++ concat (codes ":" ∷ decimal line ∷ codes ": warning: S8 NothingAccepted: " ∷ say.unused_sentence ∷ codes "\n" ∷ [])
+    ≡ unused_line accept line
+unfolding unused_line
+unused_line-is accept line = unused_parts (shown_name accept) (decimal line) (codes ": warning: S8 NothingAccepted: ") say.unused_sentence
+
+-- LINES FOR PROBLEMS OF TABLES
+
+four_parts : (level name colon : List ℕ) → concat (level ∷ colon ∷ name ∷ colon ∷ []) ≡ level ++ colon ++ name ++ colon
+four_parts level name colon = simp (append_assoc, append-nil)
+
+pub heading-is : (finding : TableFinding) (level name : List ℕ) → level ≡ say.level_name (level_of_table_problem finding.problem)
+    → name ≡ table_problem_name finding.problem → concat (level ∷ codes ": " ∷ name ∷ codes ": " ∷ []) ≡ table_heading finding
+heading-is finding level name e f = four_parts level name (codes ": ") ∙ rw (e, f) refl

@@ -1,0 +1,45 @@
+use Rattle.std.proofs.Common.{refl}
+use Rattle.pam_render.proofs.PartsProofs.Printed.{printed-as, reply-is, text-printed}
+use Rattle.pam_render.specs.parts.Findings.{IsCheckBy}
+use Rattle.pam_report.specs.Reply as spec
+use Rattle.pam_report.specs.ReplyViews.{check_view, outcomes_view, run_view, stack_view}
+use Rattle.pam_report.specs.declared.report.replies.Reply.TheVariants as replies
+use Rattle.pam_render.specs.text.Check.{line_text}
+use Rattle.pam_render.specs.text.Text.{IsText}
+use Rattle.pam_render.proofs.text.printing.print_text.Goals as goal
+
+pub returns-in-Stack : goal.returns-in-Stack
+returns-in-Stack g c =
+    reply-is g.W.Write.contents IsText _ _ _ (replies.Stack c.in-Stack.stack) _ c.in-Stack.is
+    (text-printed g.W.Write.contents IsText _ _ (spec.Stack (stack_view c.in-Stack.stack)) _ _ _ refl c.with_write_fault.ensures c.write_stack.ensures)
+
+pub returns-in-Run : goal.returns-in-Run
+returns-in-Run g c =
+    reply-is g.W.Write.contents IsText _ _ _ (replies.Run c.in-Run.run') _ c.in-Run.is
+    (text-printed g.W.Write.contents IsText _ _ (spec.Run (run_view c.in-Run.run')) _ _ _ refl c.with_write_fault-in-Run.ensures c.write_run.ensures)
+
+pub returns-in-Access : goal.returns-in-Access
+returns-in-Access g c =
+    reply-is g.W.Write.contents IsText _ _ _ (replies.Access c.in-Access.answer) _ c.in-Access.is
+    (text-printed g.W.Write.contents IsText _ _ (spec.Access c.in-Access.answer) _ _ _ refl c.with_write_fault-in-Access.ensures c.write_access.ensures)
+
+pub returns-in-Time : goal.returns-in-Time
+returns-in-Time g c =
+    reply-is g.W.Write.contents IsText _ _ _ (replies.Time c.in-Time.answer) _ c.in-Time.is
+    (text-printed g.W.Write.contents IsText _ _ (spec.Time c.in-Time.answer) _ _ _ refl c.with_write_fault-in-Time.ensures c.write_time.ensures)
+
+pub returns-in-Outcomes : goal.returns-in-Outcomes
+returns-in-Outcomes g c =
+    reply-is g.W.Write.contents IsText _ _ _ (replies.Outcomes c.in-Outcomes.outcomes) _ c.in-Outcomes.is
+    (text-printed g.W.Write.contents IsText _ _ (spec.Outcomes (outcomes_view c.in-Outcomes.outcomes)) _ _ _ refl c.with_write_fault-in-Outcomes.ensures
+    c.write_outcomes.ensures)
+
+pub returns-in-Paths : goal.returns-in-Paths
+returns-in-Paths g c = reply-is g.W.Write.contents IsText _ _ _ (replies.Paths c.in-Paths.page) _ c.in-Paths.is c.write.ensures
+
+pub returns-in-Graph : goal.returns-in-Graph
+returns-in-Graph g c = reply-is g.W.Write.contents IsText _ _ _ (replies.Graph c.in-Graph.drawing) _ c.in-Graph.is c.write_drawing.ensures
+
+pub returns-in-Check : goal.returns-in-Check
+returns-in-Check g c = reply-is g.W.Write.contents IsText _ _ _ (replies.Check c.in-Check.check) _ c.in-Check.is
+    (printed-as g.W.Write.contents (IsCheckBy line_text) IsText _ _ (spec.Check (check_view c.in-Check.check)) (λ text h. h) _ c.write_check.ensures)

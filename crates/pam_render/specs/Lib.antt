@@ -1,0 +1,5 @@
+pub mod json_lines
+pub mod json_text
+pub mod parts
+pub mod sentences
+pub mod text

@@ -1,0 +1,42 @@
+-- The JSON of `access` and `time`: the line of a table that decides, as in pam_access(8) and pam_time(8).
+use Rattle.std.specs.Prelude.{ℕ, Bool, true, false, List, [], ◌∷◌, codes, Option, Some, None}
+use Rattle.pam_render.specs.json_lines.Line.{kind, line, number_or_null}
+use Rattle.pam_tables.specs.declared.access.AccessAnswer.{AccessAnswer}
+use Rattle.pam_tables.specs.declared.access.AccessAnswer.TheVariants as access
+use Rattle.pam_tables.specs.declared.times.table.TimeAnswer.{TimeAnswer}
+use Rattle.pam_tables.specs.declared.times.table.TimeAnswer.TheVariants as times
+use Rattle.serde_json.specs.Data.{Data, boolean}
+
+abbrev pub is_granted : AccessAnswer → Bool
+is_granted (access.Granted at) = true
+is_granted (access.Denied at) = false
+
+-- the line that decides, if there is one
+abbrev pub access_line : AccessAnswer → Option ℕ
+access_line (access.Granted at) = at
+access_line (access.Denied at) = Some at
+
+abbrev pub access_members : AccessAnswer → List (List ℕ × Data)
+access_members answer =
+    kind (codes "access") ∷ (codes "granted", boolean (is_granted answer)) ∷ (codes "line", number_or_null (access_line answer)) ∷ []
+
+-- THE JSON of `access`
+abbrev pub access_json : AccessAnswer → List ℕ
+access_json answer = line (access_members answer)
+
+abbrev pub is_allowed : TimeAnswer → Bool
+is_allowed times.Granted = true
+is_allowed (times.Denied at) = false
+
+-- the line that denies, if one does
+abbrev pub denied_at : TimeAnswer → Option ℕ
+denied_at times.Granted = None
+denied_at (times.Denied at) = Some at
+
+abbrev pub time_members : TimeAnswer → List (List ℕ × Data)
+time_members answer =
+    kind (codes "time") ∷ (codes "granted", boolean (is_allowed answer)) ∷ (codes "line", number_or_null (denied_at answer)) ∷ []
+
+-- THE JSON of `time`
+abbrev pub time_json : TimeAnswer → List ℕ
+time_json answer = line (time_members answer)

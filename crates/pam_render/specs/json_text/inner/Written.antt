@@ -1,0 +1,48 @@
+-- For private contracts and proofs alone: the values that are written part by part.
+use Rattle.std.specs.Prelude.{map, option_map}
+use Rattle.pam_render.specs.parts.CheckNames.{word_of}
+use Rattle.pam_codes.specs.ControlText.{control_text}
+use Rattle.pam_render.specs.json_lines.Line.{joined, strings}
+use Rattle.pam_render.specs.parts.Ways.{count_text}
+use Rattle.pam_paths.specs.Steps.{step_seen}
+use Rattle.pam_render.specs.sentences.Sentences.{unused_sentence}
+use Rattle.serde_json.specs.Data.{Data, string}
+use Rattle.pam_report.specs.ReplyViews.{side_files}
+use Rattle.pam_render.specs.json_text.Check.{answers_array, services_array, types_array}
+use Rattle.pam_render.specs.json_text.Compare.{arguments_array, fault_if_any, new_modules, old_modules, steps_array as asked_array}
+use Rattle.pam_render.specs.json_text.Paths.{next_or_null}
+use Rattle.pam_render.specs.json_text.Sentences.{said_parts, table_parts}
+use Rattle.pam_render.specs.json_text.Steps.{cursor_string, steps_array}
+use Rattle.pam_render.specs.declared.json_text.check.values.FindingValue.{FindingValue}
+use Rattle.pam_render.specs.declared.json_text.check.values.FindingValue.TheVariants.{Answers, Said, Services, TableSaid, Types, Unused}
+use Rattle.pam_render.specs.declared.json_text.compare.values.ChangeValue.{ChangeValue}
+use Rattle.pam_render.specs.declared.json_text.compare.values.ChangeValue.TheVariants.{Arguments as ModuleArguments, Fault, NewModules, OldModules, Steps as AskedSteps}
+use Rattle.pam_render.specs.declared.json_text.show.ModuleValue.{ModuleValue}
+use Rattle.pam_render.specs.declared.json_text.show.ModuleValue.TheVariants.{Arguments, Control}
+use Rattle.pam_render.specs.declared.json_text.steps.PathValue.{PathValue}
+use Rattle.pam_render.specs.declared.json_text.steps.PathValue.TheVariants.{Cursor, Next, Steps, Ways}
+
+abbrev pub module_value : ModuleValue → Data
+module_value (Control control) = string (control_text control.now)
+module_value (Arguments arguments) = strings arguments.now
+
+abbrev pub path_value : PathValue → Data
+path_value (Cursor path) = cursor_string path.now
+path_value (Next cursor) = next_or_null (option_map (λ c. c.now) cursor)
+path_value (Steps modules steps) = steps_array modules.now (map step_seen steps.now)
+path_value (Ways count) = string (count_text count)
+
+abbrev pub change_value : ChangeValue → Data
+change_value (Fault files fault) = fault_if_any (side_files files) fault.now
+change_value (ModuleArguments stack number) = arguments_array stack.now number
+change_value (OldModules pair numbers) = old_modules pair.now numbers.now
+change_value (NewModules pair numbers) = new_modules pair.now numbers.now
+change_value (AskedSteps pair asked) = asked_array pair.now asked.now
+
+abbrev pub finding_value : FindingValue → Data
+finding_value (Said line problem word) = joined (said_parts line problem (word_of word))
+finding_value (TableSaid problem) = joined (table_parts problem)
+finding_value Unused = string unused_sentence
+finding_value (Types met) = types_array met
+finding_value (Services services met) = services_array (map (λ service. service.now) services.now) met
+finding_value (Answers ways problem) = answers_array ways.now problem

@@ -1,0 +1,167 @@
+-- What `check` says of each problem: what is wrong, and how to mend it.
+use Rattle.std.specs.Prelude.{ℕ, Bool, ◌||◌, List, [], ◌++◌, codes, if◌then◌else◌, nat_eq, Option, None, Some}
+use Rattle.std.specs.List.{ends_with}
+use Rattle.std.specs.Str.{bytes_eq}
+use Rattle.pam_arguments.specs.declared.verdict.Reaction.{Reaction}
+use Rattle.pam_arguments.specs.declared.verdict.Reaction.TheVariants.{Fails, Ignores, Logs}
+use Rattle.pam_findings.specs.declared.host.level.Level.{Level}
+use Rattle.pam_findings.specs.declared.host.level.Level.TheVariants.{Error, Note, Warning}
+use Rattle.pam_findings.specs.declared.host.problem.ArgumentProblem.{ArgumentProblem}
+use Rattle.pam_findings.specs.declared.host.problem.ArgumentProblem.TheVariants as arguments
+use Rattle.pam_findings.specs.declared.host.problem.Problem.{Problem}
+use Rattle.pam_findings.specs.declared.host.problem.Problem.TheVariants as problems
+use Rattle.pam_findings.specs.misspelled.Misspelled.{MisspelledText}
+use Rattle.pam_released.specs.declared.tables.difference.TableDifference.TheVariants.{EmptySeparator}
+use Rattle.pam_released.specs.Meanings.{meaning_of, mending_of}
+use Rattle.pam_released.specs.declared.difference.Difference.{Difference}
+use Rattle.pam_render.specs.sentences.Faults.{Naming, fault_text, naming_text}
+use Rattle.pam_render.specs.sentences.Tables.{table_difference_sentence}
+
+abbrev pub level_name : Level → List ℕ
+level_name Note = codes "note"
+level_name Warning = codes "warning"
+level_name Error = codes "error"
+
+abbrev pub released_sentence : Difference → List ℕ
+released_sentence difference = meaning_of difference ++ codes "; " ++ mending_of difference
+
+-- A5: the argument of a rule that names no separators
+abbrev pub separator_sentence : List ℕ
+separator_sentence = table_difference_sentence EmptySeparator
+
+-- L10
+abbrev pub at_included_sentence : List ℕ
+at_included_sentence =
+    codes "Debian's Linux-PAM looks for the file that is named in the first folder alone, so it refuses the whole "
+    ++ codes "configuration; copy the file there from the second folder"
+
+abbrev pub included_sentence : List ℕ
+included_sentence =
+    codes "Debian's Linux-PAM looks for the file that is named in the first folder alone, so the rule fails; "
+    ++ codes "copy the file there from the second folder"
+
+abbrev pub nobody_sentence : List ℕ
+nobody_sentence = codes " never succeeds, whatever its modules answer; look for a jump over too many items, or a module that always fails"
+
+abbrev pub anybody_sentence : List ℕ
+anybody_sentence = codes " succeeds although no module that checks who logs in does"
+
+abbrev pub asked_sentence : List ℕ
+asked_sentence =
+    codes "the module is never asked, whatever other modules answer; remove the rule, or mend a control above that ends the stack or jumps over it"
+
+abbrev pub jump_sentence : List ℕ
+jump_sentence = codes "a jump past the end of the list, which fails the stack; jump over fewer items"
+
+abbrev pub no_module_sentence : List ℕ
+no_module_sentence =
+    codes "no folder of modules has this module, so it always answers module_unknown; install it, or remove the rule"
+
+-- the text before and after the path of the module, and what to do if no module that is there has a near name
+unfoldable pub module_naming : Naming
+module_naming = record {
+  before = codes "no folder of modules has ";
+  after = codes ", so it always answers module_unknown";
+  mending = codes "install it, or remove the rule";
+}
+
+-- with the path if it is known
+abbrev pub module_text : Option MisspelledText → List ℕ
+module_text None = no_module_sentence
+module_text (Some misspelled) = naming_text misspelled module_naming
+
+abbrev pub no_other_sentence : List ℕ
+no_other_sentence = codes "there is no file other, which decides for each service without a file; make one that denies"
+
+abbrev pub unreachable_sentence : List ℕ
+unreachable_sentence = codes "services are looked up in lowercase, so no program finds this file; write its name in lowercase"
+
+abbrev pub large_sentence : List ℕ
+large_sentence =
+    codes " can come to more than 65,536 places, so it is not known whether it lets nobody or anybody in; "
+    ++ codes "use include in place of substack where done, die and reset need not stay inside"
+
+abbrev pub other_sentence : List ℕ
+other_sentence = codes " has no rules of its own, so those of other decide; write rules for it"
+
+abbrev pub left_over_sentence : List ℕ
+left_over_sentence = codes "a copy that an editor or a package left, for which no program asks; it is not checked, and may be removed"
+
+abbrev pub inside_sentence : List ℕ
+inside_sentence =
+    codes "a jump into the middle of what an include brings in, so a line added there changes where it goes; jump to its first item or past its last"
+
+abbrev pub no_function_sentence : List ℕ
+no_function_sentence = codes "the module has no function for this kind, so it always answers module_unknown; remove the rule"
+
+abbrev pub caller_sentence : List ℕ
+caller_sentence = codes "the module looks at the user of the process, which in this service is always root; remove the rule"
+
+-- S15 to S18, where the argument is not known
+abbrev pub argument_sentence : List ℕ
+argument_sentence = codes "an argument is not one that the module takes; mend it, or remove it"
+
+-- the kind of a rule, or what may be the path of its module: so a line feed is missing
+abbrev pub is_of_rule : List ℕ → Bool
+is_of_rule word =
+    bytes_eq word (codes "auth") || (bytes_eq word (codes "account") || (bytes_eq word (codes "password") || (bytes_eq word (codes "session")
+    || ends_with nat_eq word (codes ".so"))))
+
+abbrev pub unknown_after : Reaction → List ℕ
+unknown_after Fails = codes ", so it always fails"
+unknown_after Ignores = []
+unknown_after Logs = []
+
+abbrev pub unknown_mending : List ℕ → List ℕ
+unknown_mending word = if is_of_rule word then codes "put a line feed before the next rule" else codes "mend it, or remove it"
+
+-- the text before the argument, which comes after the name of the module, and after it, and how to mend it if no argument is near
+unfoldable pub argument_naming : ArgumentProblem → List ℕ → Naming
+argument_naming (arguments.Unknown reaction) word =
+    record { before = codes " knows no argument "; after = unknown_after reaction; mending = unknown_mending word }
+argument_naming arguments.Longer word =
+    record { before = codes " takes "; after = codes " for an argument that it begins with"; mending = codes "write that argument" }
+argument_naming arguments.OtherKind word = record { before = codes " does not read "; after = codes " in this kind"; mending = codes "remove it" }
+argument_naming arguments.BadValue word =
+    record { before = codes " cannot use the value of "; after = []; mending = codes "write one that its manual page names" }
+
+-- with the argument if it is known
+abbrev pub argument_text : ArgumentProblem → Option MisspelledText → List ℕ
+argument_text wrong None = argument_sentence
+argument_text wrong (Some misspelled) = naming_text misspelled (argument_naming wrong misspelled.word)
+
+-- S8: a line of the accept file that accepts nothing
+abbrev pub unused_sentence : List ℕ
+unused_sentence = codes "no finding has this number and place; remove the line, or mend it"
+
+-- of a problem that is neither a fault nor a difference
+unfoldable pub problem_sentence : Problem → List ℕ
+problem_sentence (problems.Fault fault) = []
+problem_sentence (problems.Walk fault) = []
+problem_sentence (problems.Released difference) = []
+problem_sentence problems.EmptySeparator = []
+problem_sentence (problems.IncludedFromVendor is_at_include) = if is_at_include then at_included_sentence else included_sentence
+problem_sentence (problems.LetsNobodyIn service kind) = nobody_sentence
+problem_sentence (problems.LetsAnybodyIn service) = anybody_sentence
+problem_sentence problems.NeverAsked = asked_sentence
+problem_sentence problems.JumpPastEnd = jump_sentence
+problem_sentence (problems.NoModule is_dashed) = no_module_sentence
+problem_sentence problems.NoOther = no_other_sentence
+problem_sentence problems.UnreachableName = unreachable_sentence
+problem_sentence (problems.TooLarge service kind) = large_sentence
+problem_sentence (problems.OtherAnswers service kind) = other_sentence
+problem_sentence problems.LeftOver = left_over_sentence
+problem_sentence problems.JumpIntoInclude = inside_sentence
+problem_sentence problems.NoFunction = no_function_sentence
+problem_sentence problems.CallerIsRoot = caller_sentence
+problem_sentence (problems.Argument argument wrong) = argument_sentence
+
+-- WHAT IS SAID of a problem at a line, with the word that is wrong if it is known
+abbrev pub said : ℕ → Problem → Option MisspelledText → List ℕ
+said line (problems.Fault fault) misspelled = fault_text line fault misspelled
+said line (problems.Walk fault) misspelled = fault_text line fault misspelled
+said line (problems.Released difference) misspelled = released_sentence difference
+said line problems.EmptySeparator misspelled = separator_sentence
+said line (problems.NoModule is_dashed) misspelled = module_text misspelled
+said line (problems.Argument argument wrong) misspelled = argument_text wrong misspelled
+said line problem misspelled = problem_sentence problem

@@ -1,0 +1,46 @@
+-- The text of a reply.
+use Rattle.std.specs.Prelude.{◌≡◌, ℕ, Bool, true, false, List, Result, Ok}
+use Rattle.pam_paths.specs.declared.cursor.CursorError.{CursorError}
+use Rattle.pam_report.specs.Reply.{Reply, Stack, Released, Run, Access, Time, Outcomes, Drawing, Page, Check, Compared, Explained, Explanations, Facts, Version}
+use Rattle.pam_facts.specs.Table.{table_text}
+use Rattle.pam_render.specs.json_text.Text.{IsJson, has_json}
+use Rattle.pam_words.specs.declared.wanted.OutputForm.{OutputForm}
+use Rattle.pam_words.specs.declared.wanted.OutputForm.TheVariants.{Json, PlainText}
+use Rattle.pam_render.specs.text.About.{version_text}
+use Rattle.pam_render.specs.text.Check.{check_text}
+use Rattle.pam_render.specs.text.Compare.{compare_text}
+use Rattle.pam_render.specs.text.Decide.{run_text}
+use Rattle.pam_render.specs.text.Drawing.{IsDrawingText}
+use Rattle.pam_render.specs.text.Explain.{explanation_text, explanations_text}
+use Rattle.pam_render.specs.text.Outcomes.{outcomes_text}
+use Rattle.pam_render.specs.text.Page.{IsPageText}
+use Rattle.pam_render.specs.text.Released.{released_text}
+use Rattle.pam_render.specs.text.Show.{stack_text}
+use Rattle.pam_render.specs.text.Tables.{access_text, time_text}
+
+-- THE TEXT of a reply. A page has none if its cursor is refused
+abbrev pub IsText : Reply → Result (List ℕ) CursorError → Type 0
+IsText (Stack stack) text = text ≡ Ok (stack_text stack)
+IsText (Released rules) text = text ≡ Ok (released_text rules)
+IsText (Run run) text = text ≡ Ok (run_text run)
+IsText (Access found) text = text ≡ Ok (access_text found)
+IsText (Time found) text = text ≡ Ok (time_text found)
+IsText (Outcomes outcomes) text = text ≡ Ok (outcomes_text outcomes)
+IsText (Drawing drawing) text = IsDrawingText drawing text
+IsText (Page page) text = IsPageText page text
+IsText (Check found) text = text ≡ Ok (check_text found)
+IsText (Compared changes) text = text ≡ Ok (compare_text changes)
+IsText (Explained explanation) text = text ≡ Ok (explanation_text explanation)
+IsText Explanations text = text ≡ Ok explanations_text
+IsText Facts text = text ≡ Ok table_text
+IsText Version text = text ≡ Ok version_text
+
+-- the JSON of a reply, or its text if it has none
+abbrev pub IsJsonOrText : Bool → Reply → Result (List ℕ) CursorError → Type 0
+IsJsonOrText true reply text = IsJson reply text
+IsJsonOrText false reply text = IsText reply text
+
+-- THE TEXT of a reply in a form
+abbrev pub IsTextIn : OutputForm → Reply → Result (List ℕ) CursorError → Type 0
+IsTextIn PlainText reply text = IsText reply text
+IsTextIn Json reply text = IsJsonOrText (has_json reply) reply text

@@ -1,0 +1,189 @@
+//! A line for a finding, a problem of a table, or a line of the accept file that accepts nothing.
+
+ghost use Rattle.std.specs.Prelude.{◌≡◌};
+ghost use Rattle.std.specs.Option.{option_map};
+ghost use Rattle.pam_codes.specs.Out.{Writes};
+ghost use Rattle.pam_render.specs.parts.Check.{text_at};
+ghost use Rattle.pam_render.specs.parts.CheckNames.{names_view, word_of};
+ghost use Rattle.pam_report.specs.TablePaths.{table_paths_view};
+ghost use Rattle.pam_render.specs.json_text.Check.{finding_json, line_if_any, met_unless, other_json, service_count, services_array, table_json, unused_json};
+ghost use Rattle.pam_render.specs.json_text.Header.{kind_name};
+ghost use Rattle.pam_render.specs.json_text.inner.Written.{finding_value};
+
+use super::values::FindingValue;
+use crate::json_lines::{Member, put_line};
+use crate::json_text::header::{name_in, number_in};
+use crate::parts::{FoundProblem, Names, path_of, text_at};
+use crate::sentences::level_name;
+use pam_codes::{Device, Out};
+use pam_conf::Kind;
+use pam_findings::host::{Level, Met};
+use pam_findings::tables::TableFinding;
+use pam_report::{
+    TablePaths, kind_name, problem_name, stack_of, table_problem_level, table_problem_name,
+};
+use std::io::Write;
+
+/// Returns a line, but none for a file as a whole.
+fn line_if_any(line: usize) -> Option<u64>
+    ensures { result ≡ line_if_any line }
+{
+    if line == 0 { None } else { Some(line as u64) }
+}
+
+/// Returns the stacks that meet a problem, unless it is one of a whole stack.
+fn met_unless(met: Option<Met>, stack: Option<(usize, Kind)>) -> Option<Met>
+    ensures { result ≡ met_unless met stack }
+{
+    match stack {
+        Some(_) => None,
+        None => met,
+    }
+}
+
+fn service_count(met: Option<Met>) -> u64
+    ensures { result ≡ service_count met }
+{
+    match met {
+        Some(met) => met.services as u64,
+        None => 0,
+    }
+}
+
+/// Returns the name of the service of a stack.
+fn service_of<'x>(names: &Names<'x>, stack: Option<(usize, Kind)>) -> Option<&'x [u8]>
+    ensures { option_map (λ s. s.now) result ≡ option_map (λ s. text_at (names_view names.now).services s.0) stack }
+{
+    match stack {
+        Some((service, _)) => Some(text_at(&names.services, service)),
+        None => None,
+    }
+}
+
+/// Returns the first services that meet a problem as a value.
+fn services_of<'x>(names: &'x Names<'x>, met: Option<Met>) -> FindingValue<'x>
+    ensures { finding_value result ≡ services_array (names_view names.now).services met }
+{
+    FindingValue::Services {
+        services: &names.services,
+        met,
+    }
+}
+
+/// Returns the name of the kind of a stack.
+fn type_of(stack: Option<(usize, Kind)>) -> Option<&'static [u8]>
+    ensures { option_map (λ s. s.now) result ≡ option_map kind_name (option_map (λ s. s.1) stack) }
+{
+    match stack {
+        Some((_, kind)) => Some(kind_name(kind).as_bytes()),
+        None => None,
+    }
+}
+
+/// Writes the line of a finding, with the word that is wrong if it is known.
+#[tactic(auto, unfolding(crate::specs::json_text::Check::finding_json))]
+pub(super) fn put_finding<W: Write>(found: FoundProblem<'_>, out: &mut Out<W>) -> Result<(), Device>
+    ensures { let names = names_view found.entry.names.now in
+        let entry = found.entry.entry.now in
+        Writes W.contents out.old out.new result (finding_json names entry.0 entry.1 (word_of found.entry.word)) }
+{
+    let FoundProblem { names, entry, word } = found;
+    let place = &entry.0;
+    let finding = entry.1;
+    let problem = finding.problem;
+    let name = problem_name(problem);
+    let stack = stack_of(problem);
+    let met = met_unless(finding.met, stack);
+    let said = FindingValue::Said {
+        line: place.line,
+        problem,
+        word,
+    };
+    let answers = FindingValue::Answers {
+        ways: names.ways_in,
+        problem,
+    };
+    put_line(
+        &[
+            Member::text("kind", b"finding"),
+            Member::readable("file", path_of(names, place.file)),
+            Member::number_if_any("line", line_if_any(place.line)),
+            Member::text("level", level_name(problem.level()).as_bytes()),
+            Member::text("number", number_in(name).as_bytes()),
+            Member::text("name", name_in(name).as_bytes()),
+            Member::written("sentence", said),
+            Member::readable_if_any("service", service_of(names, stack)),
+            Member::readable_if_any("type", type_of(stack)),
+            Member::written("types", FindingValue::Types(met)),
+            Member::written("services", services_of(names, met)),
+            Member::number("service_count", service_count(met)),
+            Member::written("answers", answers),
+        ],
+        out,
+    )
+}
+
+/// Writes the line of a problem that no stack meets.
+#[tactic(auto, unfolding(crate::specs::json_text::Check::other_json))]
+fn put_other<'x, W: Write>(
+    file: &'x [u8],
+    line: usize,
+    level: Level,
+    name: &'static str,
+    said: FindingValue<'x>,
+    out: &mut Out<W>,
+) -> Result<(), Device>
+    ensures { Writes W.contents out.old out.new result (other_json file.now line level name.now (finding_value said.entry)) }
+{
+    put_line(
+        &[
+            Member::text("kind", b"finding"),
+            Member::readable("file", file),
+            Member::number_if_any("line", line_if_any(line)),
+            Member::text("level", level_name(level).as_bytes()),
+            Member::text("number", number_in(name).as_bytes()),
+            Member::text("name", name_in(name).as_bytes()),
+            Member::written("sentence", said),
+            Member::null("service"),
+            Member::null("type"),
+            Member::written("types", FindingValue::Types(None)),
+            Member::written("services", FindingValue::Types(None)),
+            Member::number("service_count", 0),
+            Member::written("answers", FindingValue::Types(None)),
+        ],
+        out,
+    )
+}
+
+/// Writes the line of a problem of a table.
+pub(super) fn put_table_finding<W: Write>(
+    paths: &TablePaths<'_>,
+    finding: TableFinding,
+    out: &mut Out<W>,
+) -> Result<(), Device>
+    ensures { Writes W.contents out.old out.new result (table_json (table_paths_view paths.now) finding) }
+{
+    let problem = finding.problem;
+    put_other(
+        paths.of(finding.table),
+        finding.line as usize,
+        table_problem_level(problem),
+        table_problem_name(problem),
+        FindingValue::TableSaid(problem),
+        out,
+    )
+}
+
+/// Writes the line of S8, of a line of the accept file that accepts nothing.
+pub(super) fn put_unused<W: Write>(accept: &[u8], line: u32, out: &mut Out<W>) -> Result<(), Device>
+    ensures { Writes W.contents out.old out.new result (unused_json accept.now line) }
+{
+    put_other(
+        accept,
+        line as usize,
+        Level::Warning,
+        "S8 NothingAccepted",
+        FindingValue::Unused,
+        out,
+    )
+}

@@ -1,0 +1,16 @@
+//! What is said of the problems of a host and its tables: what is wrong, and how to mend it. Each text that shows them takes its
+//! sentences from here.
+#![tactic(auto)]
+
+mod faults;
+pub mod laws;
+mod problems;
+mod shown;
+mod tables;
+
+pub use faults::{Naming, naming_of, plain_sentence};
+pub use problems::{
+    UNUSED, argument_naming, level_name, module_naming, problem_sentence, put_said,
+};
+pub use shown::{MAX_SHOWN, put_name, put_name_within};
+pub use tables::{put_table_said, table_fault_sentence, time_fault_sentence};

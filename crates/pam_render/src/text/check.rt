@@ -1,0 +1,91 @@
+//! The text of `check`: a line for each finding, and a last line with their numbers.
+
+ghost use Rattle.pam_codes.specs.Out.{Writes};
+ghost use Rattle.pam_render.specs.text.Check.{counted, last_line, levels_text, unused_line};
+
+mod finding;
+mod met;
+mod table;
+
+use crate::parts::{CheckLine, CheckLines, Counts, stacks_of};
+use crate::sentences::{UNUSED, put_name};
+use crate::text::form::AsText;
+use finding::put_finding;
+use pam_codes::{Device, Out, Piece};
+use std::io::Write;
+use table::put_table_finding;
+
+/// Writes a number and what is counted, as `1 error` or `2 errors`.
+#[tactic(auto, unfolding(crate::specs::text::Check::counted))]
+pub(crate) fn put_counted<W: Write>(
+    count: usize,
+    name: &str,
+    out: &mut Out<W>,
+) -> Result<(), Device>
+    ensures { Writes W.contents out.old out.new result (counted count name.now) }
+{
+    out.put_line(&[
+        Piece::Number(count as u64),
+        Piece::Bytes(b" "),
+        Piece::Bytes(name.as_bytes()),
+    ])?;
+    if count == 1 {
+        return Ok(());
+    }
+    out.put(b"s")
+}
+
+/// Writes `ERRORS, WARNINGS, NOTES`.
+fn put_levels<W: Write>(counts: Counts, out: &mut Out<W>) -> Result<(), Device>
+    ensures { Writes W.contents out.old out.new result (levels_text counts) }
+{
+    put_counted(counts.errors, "error", out)?;
+    out.put(b", ")?;
+    put_counted(counts.warnings, "warning", out)?;
+    out.put(b", ")?;
+    put_counted(counts.notes, "note", out)
+}
+
+/// Writes the last line.
+#[tactic(auto, unfolding(crate::specs::text::Check::last_line))]
+fn put_last_line<W: Write>(services: usize, counts: Counts, out: &mut Out<W>) -> Result<(), Device>
+    ensures { Writes W.contents out.old out.new result (last_line services counts) }
+{
+    out.put(b"checked ")?;
+    put_counted(services, "service", out)?;
+    out.put(b", ")?;
+    put_counted(stacks_of(services), "stack", out)?;
+    out.put(b": ")?;
+    put_levels(counts, out)?;
+    out.put(b"\n")
+}
+
+/// Writes S8 of a line of the accept file.
+#[tactic(auto, unfolding(crate::specs::text::Check::unused_line))]
+fn put_unused<W: Write>(accept: &[u8], line: u32, out: &mut Out<W>) -> Result<(), Device>
+    ensures { Writes W.contents out.old out.new result (unused_line accept.now line) }
+{
+    put_name(accept, out)?;
+    out.put_line(&[
+        Piece::Bytes(b":"),
+        Piece::Number(u64::from(line)),
+        Piece::Bytes(b": warning: S8 NothingAccepted: "),
+        Piece::Bytes(UNUSED),
+        Piece::Bytes(b"\n"),
+    ])
+}
+
+impl CheckLines for AsText {
+    ghost use Rattle.pam_render.specs.text.Check.{line_text};
+
+    ghost line = { line_text };
+
+    fn put_line<W: Write>(&self, content: CheckLine<'_>, out: &mut Out<W>) -> Result<(), Device> {
+        match content {
+            CheckLine::Found(found) => put_finding(found, out),
+            CheckLine::InTable { paths, finding } => put_table_finding(paths, finding, out),
+            CheckLine::Unused { accept, line } => put_unused(accept, line, out),
+            CheckLine::Last { services, counts } => put_last_line(services, counts, out),
+        }
+    }
+}

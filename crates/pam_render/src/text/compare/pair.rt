@@ -1,0 +1,111 @@
+//! The lines of two stacks that are not the same.
+
+ghost use Rattle.pam_codes.specs.Out.{Writes};
+ghost use Rattle.pam_render.specs.parts.ComparedView.{head_view};
+ghost use Rattle.pam_render.specs.text.Compare.{argument_line, change_line, not_known_line, same_line};
+
+use super::parts::{Part, put_parts};
+use crate::parts::{DifferingStack, Head};
+use pam_changes::{MatchedPair, Shown};
+use pam_codes::{Device, Out};
+use pam_compare::MAX_SITUATIONS;
+use pam_drawing::name_of;
+use std::io::Write;
+
+/// Writes `SERVICE KIND CHANGE: CODE becomes CODE where MODULE CODE, MODULE CODE`.
+#[tactic(auto, unfolding(crate::specs::text::Compare::change_line))]
+pub(super) fn put_change<'x, W: Write>(
+    stack: DifferingStack<'x>,
+    change: &'x [u8],
+    shown: &'x Shown,
+    out: &mut Out<W>,
+) -> Result<(), Device>
+    ensures { Writes W.contents out.old out.new result (change_line (head_view stack.entry.head) stack.entry.pair.now change.now shown.now) }
+{
+    let DifferingStack { head, pair } = stack;
+    put_parts(
+        &[
+            Part::Head(head),
+            Part::Text(b" "),
+            Part::Text(change),
+            Part::Text(b": "),
+            Part::Text(name_of(shown.witness.old.code())),
+            Part::Text(b" becomes "),
+            Part::Text(name_of(shown.witness.new.code())),
+            Part::Text(b" where "),
+            Part::Asked {
+                pair,
+                asked: &shown.asked,
+            },
+            Part::Text(b"\n"),
+        ],
+        out,
+    )
+}
+
+/// Writes `SERVICE KIND same decisions`, and what changes in the modules.
+#[tactic(auto, unfolding(crate::specs::text::Compare::same_line))]
+pub(super) fn put_same<W: Write>(stack: DifferingStack<'_>, out: &mut Out<W>) -> Result<(), Device>
+    ensures { Writes W.contents out.old out.new result (same_line (head_view stack.entry.head) stack.entry.pair.now) }
+{
+    let DifferingStack { head, pair } = stack;
+    put_parts(
+        &[
+            Part::Head(head),
+            Part::Text(b" same decisions"),
+            Part::Changes(pair),
+            Part::Text(b"\n"),
+        ],
+        out,
+    )
+}
+
+/// Writes `SERVICE KIND not known: more than N situations`.
+#[tactic(auto, unfolding(crate::specs::text::Compare::not_known_line))]
+pub(super) fn put_not_known<W: Write>(head: Head<'_>, out: &mut Out<W>) -> Result<(), Device>
+    ensures { Writes W.contents out.old out.new result (not_known_line (head_view head.entry)) }
+{
+    put_parts(
+        &[
+            Part::Head(head),
+            Part::Text(b" not known: more than "),
+            Part::Number(MAX_SITUATIONS),
+            Part::Text(b" situations\n"),
+        ],
+        out,
+    )
+}
+
+/// Writes `SERVICE KIND arguments of MODULE: "ARGUMENTS" becomes "ARGUMENTS"`.
+#[tactic(auto, unfolding(crate::specs::text::Compare::argument_line))]
+pub(super) fn put_argument_line<'x, W: Write>(
+    stack: DifferingStack<'x>,
+    matched: MatchedPair,
+    out: &mut Out<W>,
+) -> Result<(), Device>
+    ensures { Writes W.contents out.old out.new result (argument_line (head_view stack.entry.head) stack.entry.pair.now matched) }
+{
+    let DifferingStack { head, pair } = stack;
+    put_parts(
+        &[
+            Part::Head(head),
+            Part::Text(b" arguments of "),
+            Part::Module {
+                stack: &pair.old,
+                number: matched.old,
+            },
+            Part::Text(b": \""),
+            Part::Arguments {
+                stack: &pair.old,
+                number: matched.old,
+            },
+            Part::Text(b"\" becomes \""),
+            Part::Arguments {
+                stack: &pair.new,
+                number: matched.new,
+            },
+            Part::Text(b"\"\n"),
+        ],
+        out,
+    )
+}

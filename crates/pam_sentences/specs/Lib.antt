@@ -1,5 +1,0 @@
-pub mod Faults
-pub mod NamingView
-pub mod Sentences
-pub mod Shown
-pub mod Tables

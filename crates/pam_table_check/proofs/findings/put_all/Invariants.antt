@@ -1,8 +1,0 @@
-use Rattle.std.proofs.Common.{take}
-use Rattle.pam_paths.specs.Classes.{Member}
-use Rattle.pam_table_check.specs.inner.Passes.{Puts}
-use Rattle.pam_table_check.proofs.findings.put_all.Given as goal
-
--- the problems so far are found
-abbrev pub invariant-loop-finding : goal.invariant-loop-finding
-invariant-loop-finding l = Puts (λ other. Member other (take l.finding-index l.findings)) l.initial.found l.found

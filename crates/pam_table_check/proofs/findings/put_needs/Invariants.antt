@@ -1,8 +1,0 @@
-use Rattle.std.proofs.Common.{map, take}
-use Rattle.pam_table_check.specs.inner.Passes.{IsOfSome, Puts, need_view}
-use Rattle.pam_table_check.specs.Tables.{tables_view}
-use Rattle.pam_table_check.proofs.findings.put_needs.Given as goal
-
--- the problems of the needs so far are found
-abbrev pub invariant-loop-need : goal.invariant-loop-need
-invariant-loop-need l = Puts (IsOfSome (tables_view l.tables) (map need_view (take l.need-index l.needs))) l.initial.found l.found

@@ -1,7 +1,0 @@
-use Rattle.std.proofs.Common.{◌≡◌, map, take}
-use Rattle.pam_table_check.specs.Tables.{of_time_fault}
-use Rattle.pam_table_check.proofs.judging.time_faults.Given as goal
-
--- the faults so far are added
-abbrev pub invariant-loop-error : goal.invariant-loop-error
-invariant-loop-error l = l.problems.items ≡ map of_time_fault (take l.error-index l.error-items)

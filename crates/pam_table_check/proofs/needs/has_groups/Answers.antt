@@ -1,9 +1,0 @@
-use Rattle.std.proofs.Common.{ap}
-use Rattle.pam_table_check.specs.Needs.{OfGroups}
-use Rattle.pam_table_check.specs.inner.Passes.{need_view}
-use Rattle.pam_table_check.proofs.Adding.{known-at}
-use Rattle.pam_table_check.proofs.needs.has_groups.Goals as goal
-
-pub returns-in-Groups : goal.returns-in-Groups
-returns-in-Groups c =
-    λ _. known-at c.args.needs.now c.loop-need.need-index c.need-item.result _ OfGroups c.loop-need-test.true c.need-item.is (ap need_view c.in-Groups.is)

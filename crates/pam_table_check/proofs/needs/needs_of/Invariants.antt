@@ -1,8 +1,0 @@
-use Rattle.std.proofs.Common.{map}
-use Rattle.pam_table_check.specs.inner.Passes.{need_view}
-use Rattle.pam_table_check.proofs.Adding.{Comes}
-use Rattle.pam_table_check.proofs.needs.needs_of.Given as goal
-
--- the services that are left add what is not yet known
-abbrev pub invariant-loop-service : goal.invariant-loop-service
-invariant-loop-service l = Comes l.rules l.services l.service-iterator (map need_view l.needs.items)

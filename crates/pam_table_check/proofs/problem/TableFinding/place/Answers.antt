@@ -1,5 +1,0 @@
-use Rattle.pam_table_check.proofs.Places.{apart-by-parts}
-use Rattle.pam_table_check.proofs.problem.TableFinding.place.Goals as goal
-
-pub returns-clause-apart : goal.returns-clause-apart
-returns-clause-apart c other same = apart-by-parts c.args.self other c.rank.result c.rank-2.result c.rank.ensures c.rank-2.ensures same

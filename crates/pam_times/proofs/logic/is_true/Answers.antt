@@ -1,6 +1,0 @@
-use Rattle.pam_times.specs.inner.Fact.{meets}
-use Rattle.pam_times.proofs.LogicSteps.{value_whole}
-use Rattle.pam_times.proofs.logic.is_true.Goals as goal
-
-pub loop-item-init : goal.loop-item-init
-loop-item-init c = value_whole (meets c.args.fact.now) c.args.text.now

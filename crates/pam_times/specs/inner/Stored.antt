@@ -1,7 +1,0 @@
--- For private contracts and proofs alone: the rules that a table of time.conf(5) holds.
-use Rattle.std.specs.Prelude.{◌≡◌, true}
-use Rattle.pam_times.specs.RuleLines.{are_rules}
-use Rattle.pam_times.specs.declared.rule_lines.RuleLines.{RuleLines}
-
-abbrev pub AreStored : RuleLines → Type 0
-AreStored r = are_rules r.text.items r.lines.items ≡ true

@@ -1,0 +1,99 @@
+"""The arguments of modules, read plainly from `docs/SPECIFICATION.md`: S15 to S18.
+
+What modules know is the table of the program, `crates/pam_arguments/src/table.rt`, which is data and no code."""
+import re
+from functools import lru_cache
+from pathlib import Path
+
+from model import spelling
+
+TABLE = Path(__file__).resolve().parents[2] / "crates/pam_arguments/src/table.rt"
+BOOLEANS = b"true yes on 1 false no off 0".split()
+PATTERNS = {b"number": rb"[-+]?[0-9]+", b"number-or-never": rb"[-+]?[0-9]+|never", b"octal": rb"[-+]?[0-7]+",
+            b"bool": rb"(?i:%s)" % b"|".join(BOOLEANS)}
+# The number of what is wrong, what is said before and after the argument, and how to mend it.
+SAID = {"S15": (b" knows no argument ", b"", b"mend it, or remove it"),
+        "S16": (b" takes ", b" for an argument that it begins with", b"write that argument"),
+        "S17": (b" does not read ", b" in this kind", b"remove it"),
+        "S18": (b" cannot use the value of ", b"", b"write one that its manual page names")}
+NAMES = {"S15": "UnknownArgument", "S16": "LongerWord", "S17": "ArgumentOfOtherKind", "S18": "BadValue"}
+KINDS = [b"auth", b"account", b"password", b"session"]
+REACTIONS = [b"ignores", b"logs", b"fails"]
+
+
+@lru_cache(None)
+def table():
+    """The words of each module's line, after its name."""
+    text = re.search(r'const TABLE: &\[u8\] = b"\\\n(.*?)";', TABLE.read_text(), re.S)[1]
+    lines = re.sub(r"\\\n\s*", "", text.replace("\\n\\\n", "\n")).encode()
+    return {words[0]: words[1:] for words in (line.split() for line in lines.splitlines())}
+
+
+class Row:
+    """An argument that a module knows."""
+
+    def __init__(self, word, kinds):
+        form, _, own = word.partition(b"@")
+        self.kinds = (own or kinds).split(b",")
+        marks, self.argument, value = re.fullmatch(rb"([*?~]*)([^:]*)(?::(.*))?", form).groups()
+        self.flags = re.I if b"*" in marks else 0
+        self.value = value and (PATTERNS.get(value) or b"|".join(map(re.escape, value.split(b"|"))))
+        may_follow = rb".*" if self.argument.endswith(b"=") else rb"(=.*)?" if b"?" in marks else b""
+        self.whole = re.compile(rb"(?s)%s%s" % (re.escape(self.argument), may_follow), self.flags)
+        self.longer = re.compile(rb"(?s)%s.*" % re.escape(self.argument.removesuffix(b"=")), self.flags) if b"~" in marks else None
+
+
+@lru_cache(None)
+def rows(name):
+    kinds, _, *arguments = table()[name]
+    return [Row(word, kinds) for word in arguments]
+
+
+def reaction(name, kind):
+    """What a module does with a word that it does not know; `None` where it takes any."""
+    does, _, kinds = table()[name][1].partition(b"@")
+    if does == b"free":
+        return None
+    return does if kind in (kinds or table()[name][0]).split(b",") else b"ignores"
+
+
+def is_ignored(does):
+    """Whether a module goes on without a word, by the number of what it does."""
+    return REACTIONS[does] == b"ignores"
+
+
+@lru_cache(None)
+def wrong(name, kind, word):
+    """What is wrong with an argument of a rule: its number, and what the module then does, or `None`."""
+    if name not in table():
+        return None
+    whole = [row for row in rows(name) if row.whole.fullmatch(word)]
+    longer = [row for row in rows(name) if row.longer and row.longer.fullmatch(word)]
+    for row in whole:
+        if kind in row.kinds:
+            value = word.partition(b"=")[2] if b"=" in word else None
+            is_right = row.value is None or value is None or re.fullmatch(row.value, value)
+            return None if is_right else ("S18", 0)
+    if any(kind in row.kinds for row in longer):
+        return "S16", 0
+    if whole or longer:
+        return "S17", 0
+    does = reaction(name, kind)
+    return None if does is None else ("S15", REACTIONS.index(does))
+
+
+def nearest(name, word):
+    """The nearest argument of a module: of a word with a value only its name counts."""
+    front, sign, _ = word.partition(b"=")
+    return spelling.nearest([row.argument for row in rows(name)], front + sign)
+
+
+def sentence(name, file, number, does, word, quote, shown):
+    """What is said of a wrong argument of a module with this name and this file."""
+    before, after, mending = SAID[number]
+    if number == "S15" and REACTIONS[does] == b"fails":
+        after = b", so it always fails"
+    if number == "S15" and (word in KINDS or word.endswith(b".so")):
+        mending = b"put a line feed before the next rule"
+    near = nearest(name, word) if number in ("S15", "S16") else None
+    return shown(file) + before + quote(word) + after + b"; " + (mending if near is None else b"did you mean %s?" % quote(near))
