@@ -43,7 +43,7 @@ begins any_case word front = is_same any_case (take (length front) word) front
 abbrev pub ends_in_equals : List ℕ → Bool
 ends_in_equals argument = ends_with nat_eq argument (codes "=")
 
--- what may come after the argument: nothing; a value behind the `=` that the argument ends in; `=` and a value
+-- what may come after the argument: nothing; the value, if the argument ends in `=`; or `=` and a value
 abbrev pub may_follow : Row → List ℕ → Bool
 may_follow row [] = true
 may_follow row (b ∷ bs) = ends_in_equals row.argument || row.may_have_value && b == 61

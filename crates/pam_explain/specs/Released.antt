@@ -163,7 +163,7 @@ empty_module_name =
       linux_pam =
           codes "1.5.2 and 1.7.0 refuse the whole configuration, which locks out: of\n"
           ++ codes "each service, if the line is in the file other. What substack names is such a\n"
-          ++ codes "path for them too, as .x and ? are.";
+          ++ codes "path for them too, for example .x.";
       mending =
           codes "name the file of the module.";
     }

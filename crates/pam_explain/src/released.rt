@@ -186,7 +186,7 @@ fn empty_module_name() -> Explanation
         linux_pam: concat!(
             "1.5.2 and 1.7.0 refuse the whole configuration, which locks out: of\n",
             "each service, if the line is in the file other. What substack names is such a\n",
-            "path for them too, as .x and ? are."
+            "path for them too, for example .x."
         ),
         mending: "name the file of the module.",
     }

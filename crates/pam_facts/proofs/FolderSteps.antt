@@ -2,7 +2,7 @@
 use Rattle.std.proofs.Common.{◌≡◌, ◌∙◌, ℕ, zero, suc, List, [], ◌∷◌, map, take, Bor, Option, Some, None, refl, sym, ap}
 use Rattle.std.proofs.lemmas.List.{take-map}
 use Rattle.std.specs.List.{slice_split}
-use Rattle.pam_tables.proofs.Cutting.{split_found, split_none}
+use Rattle.pam_text.proofs.Splits.{split_found, split_none}
 use Rattle.pam_text.specs.Cut.{cut_at, is_among}
 use Rattle.pam_facts.specs.Paths.{entered, module_below, module_in, parts_of}
 

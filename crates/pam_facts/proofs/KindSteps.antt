@@ -8,7 +8,7 @@ use Rattle.pam_text.specs.Cut.{cut_at, is_among}
 use Rattle.pam_facts.specs.Kinds.{and_kind, kinds_named, kinds_of_names, names_in, no_kinds, with_kind}
 use Rattle.pam_facts.specs.inner.Kinds.{names_left}
 use Rattle.pam_facts.specs.declared.kinds.Kinds.{Kinds}
-use Rattle.pam_tables.proofs.Cutting.{split_found, split_none}
+use Rattle.pam_text.proofs.Splits.{split_found, split_none}
 
 -- ---- the names
 

@@ -19,7 +19,7 @@ pub(crate) struct Folder<'a> {
     depth: usize,
 }
 
-/// Whether a name leads to the folder that it stands in.
+/// Whether a component of a path changes nothing: it is empty, `.` or `$ISA`.
 fn leads_nowhere(name: &[u8]) -> bool
     ensures { result ≡ leads_nowhere name.now }
 {

@@ -7,7 +7,8 @@ use Rattle.std.specs.Char.{is_digit, digit_value}
 use Rattle.std.proofs.lemmas.Bool.{eqb-true}
 use Rattle.pam_tables.specs.Lines.{is_among, cut_at}
 use Rattle.pam_tables.specs.Address.{numeral, number_in, octet_of, all_four, four_octets, v4_of}
-use Rattle.pam_tables.proofs.Cutting.{split_found, split_none, split_two, split_three, none_passes, found_within, split_parts}
+use Rattle.pam_tables.proofs.Cutting.{split_two, split_three, none_passes, found_within, split_parts}
+use Rattle.pam_text.proofs.Splits.{split_found, split_none}
 
 -- a set of one byte has only that byte
 pub among_one : (c b : ℕ) → is_among (c ∷ []) b ≡ true → c ≡ b

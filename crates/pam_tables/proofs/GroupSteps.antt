@@ -12,7 +12,8 @@ use Rattle.pam_tables.specs.Lines.{has_bytes, is_among, cut_at, is_blank_line}
 use Rattle.pam_tables.specs.inner.Named.{with_line}
 use Rattle.pam_tables.specs.declared.error.TableFault.{TableFault}
 use Rattle.pam_tables.specs.declared.error.TableFault.TheVariants.{BadGroup}
-use Rattle.pam_tables.proofs.Cutting.{split_found, split_none, split_two, split_three, split_parts}
+use Rattle.pam_tables.proofs.Cutting.{split_two, split_three, split_parts}
+use Rattle.pam_text.proofs.Splits.{split_found, split_none}
 use Rattle.pam_tables.proofs.NamedSteps.{entry_view}
 
 -- ---- fields

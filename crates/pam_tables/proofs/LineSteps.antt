@@ -1,7 +1,7 @@
 -- The first of the remaining lines.
 use Rattle.std.proofs.Common.{◌≡◌, ◌+◌, ℕ, Bool, true, false, List, [], ◌∷◌, ◌<◌, length, arith, Some, None, refl, ap}
 use Rattle.pam_tables.specs.Lines.{cut_at, is_among, lines_from, lines_left, numbered, without_return}
-use Rattle.pam_tables.proofs.Cutting.{split_found, split_none}
+use Rattle.pam_text.proofs.Splits.{split_found, split_none}
 
 pub first_line : (done : Bool) (n : ℕ) (text a r line : List ℕ) → done ≡ false → Some (a, r) ≡ cut_at (is_among (10 ∷ [])) text → line ≡ without_return a →
     lines_left done n text ≡ (n, line) ∷ lines_left done (n + 1) r

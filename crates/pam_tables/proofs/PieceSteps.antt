@@ -8,7 +8,8 @@ use Rattle.std.proofs.lemmas.List.{drop_more, drop_all, take_more}
 use Rattle.pam_tables.specs.Lines.{is_among, cut_at}
 use Rattle.pam_tables.specs.Address.{double_colon, number_from, numeral, pieces_in, pieces_of, last_pieces, with_piece}
 use Rattle.pam_tables.specs.inner.Address.{more_pieces}
-use Rattle.pam_tables.proofs.Cutting.{split_found, split_none, split_parts}
+use Rattle.pam_tables.proofs.Cutting.{split_parts}
+use Rattle.pam_text.proofs.Splits.{split_found, split_none}
 
 -- a cut of the text after the first n bytes, as a cut of the whole text
 abbrev pub after : ℕ → List ℕ → Option (List ℕ × List ℕ) → Option (List ℕ × List ℕ)

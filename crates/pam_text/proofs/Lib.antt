@@ -7,6 +7,7 @@ pub mod Prefixes
 pub mod Runs
 pub mod Searching
 pub mod Sources
+pub mod Splits
 pub mod TextLines
 pub mod TextSteps
 pub mod TextsCut

@@ -2,7 +2,7 @@
 
 ghost use Rattle.pam_findings.specs.misspelled.Laws.{DoneIsNearer, MostNames, NumbersGetDigits};
 
-/// A word for a number gets its digits, and `done` stands for no word that is as near to one for a number.
+/// A word for a number is mended to its digits, and `done` is suggested only where no word for a number is as near.
 pub fn actions()
     ensures numbers { NumbersGetDigits }
     ensures done { DoneIsNearer }

@@ -4,7 +4,7 @@ use Rattle.std.specs.List.{list_all, onto_first, slice_split}
 use Rattle.std.proofs.Math.Bool.{or_assoc}
 use Rattle.pam_text.specs.Blanks.{is_text_blank}
 use Rattle.pam_text.specs.Cut.{cut_at, is_among}
-use Rattle.pam_tables.proofs.Cutting.{split_found, split_none}
+use Rattle.pam_text.proofs.Splits.{split_found, split_none}
 use Rattle.pam_released.specs.Laws.{ManualLines}
 use Rattle.pam_released.specs.Lines.{before_hash, continued, ends_in_backslash, has_hash, last_is_space, manual_lines_of, onto_line, pieces}
 use Rattle.pam_released.specs.tables.inner.Pieces.{filled_after, front_of, is_filled_by}

@@ -3,7 +3,7 @@ use Rattle.std.proofs.Common.{◌≡◌, ◌∙◌, ◌||◌, ℕ, Bool, true, f
 use Rattle.std.specs.List.{list_any, slice_split}
 use Rattle.std.proofs.Math.Bool.{or-false}
 use Rattle.pam_text.specs.Cut.{cut_at}
-use Rattle.pam_tables.proofs.Cutting.{split_found, split_none}
+use Rattle.pam_text.proofs.Splits.{split_found, split_none}
 
 -- a part that passes a test
 pub part_passes : (p : ℕ → Bool) (test : List ℕ → Bool) (text a r : List ℕ) → Some (a, r) ≡ cut_at p text → test a ≡ true →

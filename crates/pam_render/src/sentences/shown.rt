@@ -160,7 +160,7 @@ pub fn put_name<W: Write>(name: &[u8], out: &mut Out<W>) -> Result<(), Device>
     put_bytes(false, name, out)
 }
 
-/// Writes a name that stands within brackets: as a name, but with `\]` for each `]`.
+/// Writes a name inside brackets: as `put_name` does, but each `]` as `\]`.
 pub fn put_name_within<W: Write>(name: &[u8], out: &mut Out<W>) -> Result<(), Device>
     ensures { Writes W.contents out.old out.new result (name_within name.now) }
 {

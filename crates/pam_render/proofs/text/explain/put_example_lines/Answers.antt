@@ -1,6 +1,6 @@
 use Rattle.std.proofs.Common.{[], ◌∷◌, refl}
 use Rattle.pam_codes.proofs.Writing.{err-front}
-use Rattle.pam_tables.proofs.Cutting.{split_found, split_none}
+use Rattle.pam_text.proofs.Splits.{split_found, split_none}
 use Rattle.pam_text.specs.Cut.{is_among}
 use Rattle.pam_render.proofs.TextProofs.ListTexts.{partly-failed, partly-last, partly-more, partly-none}
 use Rattle.pam_render.specs.text.Explain.{example_line}
