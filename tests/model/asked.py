@@ -1,11 +1,11 @@
-"""Which modules some answers ask, and which of these can jump past the end of their list, read plainly from
-`docs/SPECIFICATION.md`: by trying every answer at every place at which a run can be."""
+"""Which modules some answers ask, which of these can jump past the end of their list, and of which a success counts, read
+plainly from `docs/SPECIFICATION.md`: by trying every answer at every place at which a run can be."""
 
-from model import stacks
+from model import outcomes, stacks
 
 
 def questions(items, allowed):
-    """Each module that allowed answers ask, with the open lists after it, once for each place."""
+    """Each module that allowed answers ask, with the open lists after it and the state, once for each place."""
     seen = set()
     waiting = [([(items, stacks.START)], stacks.START)]
     while waiting:
@@ -15,19 +15,32 @@ def questions(items, allowed):
         if module is None or place in seen:
             continue
         seen.add(place)
-        yield module, lists
+        yield module, lists, state
         waiting += [stacks.answered(module, lists, state, code) for code in allowed[module.number - 1]]
 
 
 def asked(items, allowed):
     """The numbers of the modules that some answers ask."""
-    return {module.number for module, _ in questions(items, allowed)}
+    return {module.number for module, _, _ in questions(items, allowed)}
+
+
+def asked_with(code, items, allowed):
+    """The numbers of the modules that some answers ask and that may answer a code."""
+    return {number for number in asked(items, allowed) if code in allowed[number - 1]}
+
+
+def counting(items, allowed):
+    """The numbers of the modules that answer success in a run that decides success."""
+    places = outcomes.Places(allowed)
+    return {module.number for module, lists, state in questions(items, allowed)
+            if b"success" in allowed[module.number - 1]
+            and b"success" in places.outcomes(*stacks.answered(module, lists, state, b"success"))}
 
 
 def jumping(items, allowed):
     """The modules that are asked and can jump past the end of their list."""
     found = {}
-    for module, lists in questions(items, allowed):
+    for module, lists, _ in questions(items, allowed):
         actions = [module.control[stacks.CODES.index(code)] for code in allowed[module.number - 1]]
         if any(isinstance(action, int) and action > len(lists[-1][0]) for action in actions):
             found[module.number] = module
