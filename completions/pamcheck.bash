@@ -173,6 +173,9 @@ _pamcheck_complete() {
         service)
             if [[ $command == compare ]]; then
                 _pamcheck_offer_services --dir "${words[2]}"
+            elif [[ $command == check && $cur == */* ]]; then
+                # A service with a slash is the path of its file.
+                _filedir
             else
                 _pamcheck_offer_services "${words[@]:2}"
             fi

@@ -48,9 +48,15 @@ end
 
 # The services of the source that the words name, or of the running system.
 function __pamcheck_services
+    set -l words (commandline -opc)
+    # A service of check with a slash is the path of its file.
+    if string match -q '*/*' -- (commandline -ct)
+        and test "$words[2]" = check
+        __fish_complete_path (commandline -ct)
+        return
+    end
     set -l conf (__pamcheck_value --conf)
     set -l dirs (__pamcheck_value --dir) (__pamcheck_value --vendor-dir)
-    set -l words (commandline -opc)
     # The first word of a comparison is a folder.
     if test "$words[2]" = compare
         set conf
