@@ -1,5 +1,6 @@
 pub mod Adding
 pub mod Asking
+pub mod Counted
 pub mod CutOff
 pub mod FileNames
 pub mod Foldered
@@ -19,6 +20,7 @@ pub mod Ruled
 pub mod Seen
 pub mod Silence
 pub mod Taking
+pub mod Vain
 pub mod Vendored
 pub mod Verdicted
 pub mod WrongArguments

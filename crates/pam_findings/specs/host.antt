@@ -14,5 +14,6 @@ pub mod Problems
 pub mod Report
 pub mod Separators
 pub mod StackProblems
+pub mod UnknownModules
 pub mod Verdicts
 pub mod inner

@@ -42,6 +42,8 @@ problem_name problems.JumpIntoInclude = codes "S12 JumpIntoInclude"
 problem_name problems.NoFunction = codes "S13 NoFunction"
 problem_name problems.CallerIsRoot = codes "S14 CallerIsRoot"
 problem_name (problems.Argument argument wrong) = argument_name wrong
+problem_name problems.UnknownModule = codes "S25 UnknownModule"
+problem_name problems.SuccessNeverCounts = codes "S26 SuccessNeverCounts"
 
 -- the service and the kind of a problem of a whole stack
 abbrev pub stack_of : Problem → Option (ℕ × Kind)

@@ -54,6 +54,8 @@ pub fn problem_name(problem: Problem) -> &'static str
         Problem::NoFunction => "S13 NoFunction",
         Problem::CallerIsRoot => "S14 CallerIsRoot",
         Problem::Argument { wrong, .. } => argument_name(wrong),
+        Problem::UnknownModule => "S25 UnknownModule",
+        Problem::SuccessNeverCounts => "S26 SuccessNeverCounts",
     }
 }
 

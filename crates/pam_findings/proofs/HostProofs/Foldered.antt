@@ -146,6 +146,8 @@ module _ (folder : Folder) where
   from-folder file line problems.CallerIsRoot first h = absurd (false≢true h)
   from-folder file line (problems.Argument argument wrong) first h = absurd (false≢true h)
   from-folder file line problems.EmptySeparator first h = absurd (false≢true h)
+  from-folder file line problems.UnknownModule first h = absurd (false≢true h)
+  from-folder file line problems.SuccessNeverCounts first h = absurd (false≢true h)
 
 -- with no names, the problems of a folder are these
 pub whole-folder : (folder : Folder) (named : List (List ℕ)) → folder.form ≡ Dir → named ≡ [] → (old new : Table) →

@@ -116,6 +116,8 @@ module _ (folder : Folder) (start file : ℕ) (bytes : List ℕ) where
   to_spot line problems.CallerIsRoot h = absurd h
   to_spot line (problems.Argument argument wrong) h = absurd h
   to_spot line problems.EmptySeparator h = absurd h
+  to_spot line problems.UnknownModule h = absurd h
+  to_spot line problems.SuccessNeverCounts h = absurd h
 
   abbrev Has : Spot → Type 0
   Has s = (s.file ≡ Some file) × BytesHave folder start bytes s.line s.problem

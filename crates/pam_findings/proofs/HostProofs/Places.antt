@@ -83,6 +83,8 @@ other_numbered n service kind =
     else if nat_lt n 23 then problems.JumpIntoInclude
     else if nat_lt n 24 then problems.NoFunction
     else if nat_lt n 25 then problems.CallerIsRoot
+    else if nat_lt 35 n then problems.SuccessNeverCounts
+    else if nat_lt 34 n then problems.UnknownModule
     else problems.Argument service (wrong_numbered (n - 25) kind)
 
 -- the problem with this rank, service and kind
@@ -208,6 +210,8 @@ of_problem problems.JumpIntoInclude = refl
 of_problem problems.NoFunction = refl
 of_problem problems.CallerIsRoot = refl
 of_problem problems.EmptySeparator = refl
+of_problem problems.UnknownModule = refl
+of_problem problems.SuccessNeverCounts = refl
 of_problem (problems.Argument argument wrong) = of_argument argument wrong
 
 -- TWO PROBLEMS HAVE TWO PLACES

@@ -73,6 +73,8 @@ not-in-stack modules service name kind faults items home verdict spot folder sta
 not-in-stack modules service name kind faults items home verdict spot folder start bytes problems.NoFunction h k = h
 not-in-stack modules service name kind faults items home verdict spot folder start bytes problems.CallerIsRoot h k = h
 not-in-stack modules service name kind faults items home verdict spot folder start bytes problems.EmptySeparator h k = h
+not-in-stack modules service name kind faults items home verdict spot folder start bytes problems.UnknownModule h k = h
+not-in-stack modules service name kind faults items home verdict spot folder start bytes problems.SuccessNeverCounts h k = h
 not-in-stack modules service name kind faults items home verdict spot folder start bytes (problems.Argument argument wrong) h k = h
 
 -- the bytes of a file that has a problem

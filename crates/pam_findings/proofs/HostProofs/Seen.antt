@@ -52,6 +52,8 @@ none-by-refused service kind home spot problems.NoFunction h = h
 none-by-refused service kind home spot problems.CallerIsRoot h = h
 none-by-refused service kind home spot (problems.Argument argument wrong) h = h
 none-by-refused service kind home spot problems.EmptySeparator h = h
+none-by-refused service kind home spot problems.UnknownModule h = h
+none-by-refused service kind home spot problems.SuccessNeverCounts h = h.1
 
 -- WHAT A STACK MAY ASK
 

@@ -14,7 +14,7 @@ use Rattle.pam_conf.specs.FileRules.{own_faults}
 use Rattle.pam_conf.specs.Files.{Named, bytes_at}
 use Rattle.pam_conf.specs.Laws.{IsSound}
 use Rattle.pam_conf.specs.Resolution.{resolved}
-use Rattle.pam_conf.specs.Stack.{Items}
+use Rattle.pam_conf.specs.Stack.{IsNumbered, Items, ModuleText, module_at}
 use Rattle.pam_conf.specs.Survey.{SurveyText, faults_at}
 use Rattle.pam_conf.specs.declared.conf_error.ConfError.{ConfError}
 use Rattle.pam_conf.specs.declared.error.FaultKind.{FaultKind}
@@ -24,6 +24,8 @@ use Rattle.pam_conf.specs.declared.rule.Form.{Form}
 use Rattle.pam_conf.specs.declared.rule.Form.TheVariants.{Dir, Single}
 use Rattle.pam_conf.specs.declared.rule.Kind.{Kind}
 use Rattle.pam_conf.specs.declared.rule.Kind.TheVariants.{Auth}
+use Rattle.pam_conf.proofs.ResolvedStacks.{resolved_stack}
+use Rattle.pam_conf.proofs.StackTree.{module_at-there}
 use Rattle.pam_conf.proofs.SoundSurveys.{faultless, stack_is_sound}
 use Rattle.pam_text.specs.Members.{Member}
 use Rattle.pam_paths.specs.Known.{may_answer}
@@ -35,9 +37,9 @@ use Rattle.pam_findings.specs.host.Laws.{IsSilent, IsSoundStack, SilentHostIsSou
 use Rattle.pam_findings.specs.host.Levels.{level_of, level_of_fault}
 use Rattle.pam_findings.specs.host.Problems.{compare_places, place_of}
 use Rattle.pam_findings.specs.host.Report.{IsFound, IsReportOn}
-use Rattle.pam_findings.specs.host.StackProblems.{InItems, InWalk}
+use Rattle.pam_findings.specs.host.StackProblems.{InItems, InWalk, SucceedsInVain}
 use Rattle.pam_findings.specs.host.inner.Table.{Table}
-use Rattle.pam_findings.specs.host.Verdicts.{IsJudgement, IsVerdict, Judged, Judgement, LetsNobody, Refused, TooLarge, Verdict, way_in_of}
+use Rattle.pam_findings.specs.host.Verdicts.{IsJudgement, IsVerdict, Judged, Judgement, LetsNobody, Refused, SaysWhoLogsIn, TooLarge, Verdict, way_in_of}
 use Rattle.pam_findings.specs.declared.host.level.Level.TheVariants.{Note, Warning}
 use Rattle.pam_findings.specs.declared.host.problem.Place.{Place}
 use Rattle.pam_findings.specs.declared.host.problem.Problem.TheVariants as problems
@@ -45,6 +47,7 @@ use Rattle.pam_findings.specs.declared.host.problem.Spot.{Spot}
 use Rattle.pam_findings.specs.declared.host.report.Finding.{Finding}
 use Rattle.pam_findings.specs.declared.host.way_in.WayIn.{WayIn}
 use Rattle.pam_conf.proofs.ServiceSteps.{no_faults}
+use Rattle.pam_findings.proofs.HostProofs.Counted.{asked-range, counts_or_not}
 use Rattle.pam_findings.proofs.HostProofs.Meeting.{to_front}
 use Rattle.pam_findings.proofs.HostProofs.Places.{exact_places, places_total}
 
@@ -185,6 +188,16 @@ module _ (host : Host) (named : List (List ℕ)) (found : Table) (ways : List (O
       ];
       nobody_else = λ auth answers allowed decides.
           way-none auth j.way refl h.way (record { answers = answers; allowed = allowed; decides = decides });
+      counts = λ auth lets number says succeeds.
+          let numbered : IsNumbered j.items = (resolved_stack host.folder (service_at host service) kind j.items h.stack).0 in
+          let range = asked-range (may_answer j.free) j.items number numbered succeeds.asks in
+          let module_there = module_at-there 1 number j.items numbered range.0 (omega (arith, range.1)) in
+          elim (counts_or_not (may_answer j.free) j.items number numbered succeeds) [
+            | inl counts ↦ counts
+            | inr none ↦
+                let never : Member number j.never_counts = (h.never_counts.members number).1 (record { succeeds = succeeds; never = none }) in
+                absurd (not-vain auth lets number (module_at number j.items) refl module_there never says)
+          ];
       arguments = λ number rule position wrong there wrong_is.
           let spot : Spot = record { file = Some rule.file; line = rule.line; problem = problems.Argument position wrong } in
           let name = service_at host service in
@@ -195,6 +208,23 @@ module _ (host : Host) (named : List (List ℕ)) (found : Table) (ways : List (O
           met-note spot service kind (within, inr (inl (inr (inl (subst In (sym given) has)))), λ e. absurd cc);
     }
       where
+        somebody-in : LetsIn (may_answer j.free) j.items → j.nobody ≡ false
+        somebody-in lets = elim (cases_Bool j.nobody) [
+          | inl t ↦ absurd (subst (SaysNobody (may_answer j.free) j.items) t h.nobody lets)
+          | inr f ↦ f
+        ]
+
+        not-vain : kind ≡ Auth → LetsIn (may_answer j.free) j.items → (number : ℕ) (o : Option ModuleText) → module_at number j.items ≡ o → IsSome o →
+            Member number j.never_counts → SaysWhoLogsIn j.failing number → ⊥
+        not-vain auth lets number None there some never says = absurd cc
+        not-vain auth lets number (Some rule) there some never says =
+            let spot : Spot = record { file = Some rule.file; line = rule.line; problem = problems.SuccessNeverCounts } in
+            let vain : SucceedsInVain (Judged j) spot =
+            (somebody-in lets, (number, rule, record { is_there = there; file = refl; line = refl }, (never, says))) in
+            let here : SucceedsInVain (report.verdicts service kind) spot = subst (λ (v : Verdict). SucceedsInVain v spot) (sym is) vain in
+            let note : Warning ≡ Note = met-note spot service kind (within, inr (inl (inr (inr (auth, here)))), λ e. absurd cc) in
+            cc
+
         way-none : kind ≡ Auth → (o : Option PathValue) → j.way ≡ o → SaysWayIn (may_answer j.failing) j.items o → LetsIn (may_answer j.failing) j.items → ⊥
         way-none auth None none says lets = says lets
         way-none auth (Some path) some says lets = not-anybody auth (ap (λ v. is_some (way_in_of v)) is ∙ ap is_some some)

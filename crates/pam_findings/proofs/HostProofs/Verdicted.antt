@@ -1,16 +1,17 @@
 -- The problems that a verdict gives.
 use Rattle.std.proofs.Common.{◌≡◌, ◌⊎◌, ◌↔◌, ℕ, Bool, true, false, List, [], ◌∷◌, ◌++◌, refl, sym, ◌∙◌, ap, subst, inl, inr, Option, IsSome}
+use Rattle.pam_conf.specs.declared.rule.Kind.{Kind}
 use Rattle.pam_conf.specs.declared.rule.Kind.TheVariants.{Auth}
 use Rattle.pam_text.specs.Members.{Member}
-use Rattle.pam_findings.specs.host.inner.Looked.{OfModules}
+use Rattle.pam_findings.specs.host.inner.Looked.{OfModules, VainIn}
 use Rattle.pam_findings.specs.host.StackProblems.{ByVerdict}
 use Rattle.pam_findings.specs.host.inner.Table.{Adds}
-use Rattle.pam_findings.specs.host.Verdicts.{HasOther, Judged, Judgement}
+use Rattle.pam_findings.specs.host.Verdicts.{HasOther, Judged, Judgement, SaysWhoLogsIn}
 use Rattle.pam_findings.specs.declared.host.judging.Stacked.{Stacked}
 use Rattle.pam_findings.specs.declared.host.problem.Problem.{Problem}
 use Rattle.pam_findings.specs.declared.host.problem.Problem.TheVariants as problems
 use Rattle.pam_findings.specs.declared.host.problem.Spot.{Spot}
-use Rattle.pam_findings.proofs.HostProofs.Adding.{adds-both, adds-if, adds-iff, adds-one}
+use Rattle.pam_findings.proofs.HostProofs.Adding.{adds-both, adds-if, adds-iff, adds-none, adds-one}
 
 -- a problem of a whole stack
 abbrev pub spot_of : Stacked → Problem → Spot
@@ -31,37 +32,63 @@ pub adds-whole : (at : Stacked) (problem : Problem) (old new : List Spot) (has :
     Adds (λ spot. (has ≡ true) × (spot ≡ spot_of at problem)) old new
 adds-whole at problem old new has t is = adds-if (has ≡ true) (λ spot. spot ≡ spot_of at problem) old new t (adds-one old new (spot_of at problem) is)
 
+-- where somebody is let in
+pub adds-vain : (kind : Kind) (j : Judgement) (old new : List Spot) → (kind ≡ Auth) × (j.nobody ≡ false) →
+    Adds (OfModules problems.SuccessNeverCounts j.items (λ number. Member number j.never_counts × SaysWhoLogsIn j.failing number)) old new →
+    Adds (VainIn kind j) old new
+adds-vain kind j old new lets h =
+    adds-iff (OfModules problems.SuccessNeverCounts j.items (λ number. Member number j.never_counts × SaysWhoLogsIn j.failing number)) (VainIn kind j) old new
+    (λ spot. (λ m. record { auth = lets.0; somebody = lets.1; of = m }, λ v. v.of)) h
+
+-- where nobody is
+pub adds-no-vain : (kind : Kind) (j : Judgement) (spots : List Spot) → (kind ≡ Auth → j.nobody ≡ false → ⊥) → Adds (VainIn kind j) spots spots
+adds-no-vain kind j spots none = adds-none (VainIn kind j) spots (λ spot v. none v.auth v.somebody)
+
 module _ (at : Stacked) (j : Judgement) (nobody anybody : Bool) (says_nobody : (nobody ≡ true) ↔ ((j.nobody ≡ true) × HasOther j.items))
     (says_anybody : (anybody ≡ true) ↔ ((at.kind ≡ Auth) × IsSome j.way)) where
   By : Spot → Problem → Type 0
   By spot problem = ByVerdict at.service at.kind at.home (Judged j) spot problem
 
+  abbrev Vain : Spot → Type 0
+  Vain spot = VainIn at.kind j spot
+
   Parts : Spot → Type 0
   Parts spot =
-      (((nobody ≡ true) × (spot ≡ spot_of at (problems.LetsNobodyIn at.service at.kind)))
+      ((((nobody ≡ true) × (spot ≡ spot_of at (problems.LetsNobodyIn at.service at.kind)))
       ⊎ ((anybody ≡ true) × (spot ≡ spot_of at (problems.LetsAnybodyIn at.service))))
-      ⊎ OfModules problems.JumpPastEnd j.items (λ number. Member number j.jumps) spot
+      ⊎ OfModules problems.JumpPastEnd j.items (λ number. Member number j.jumps) spot)
+      ⊎ Vain spot
 
   to-verdict : (spot : Spot) → Parts spot → By spot spot.problem
   unfolding By Parts
-  to-verdict spot (inl (inl h)) = subst (λ (s : Spot). By s s.problem) (sym h.1) (refl, refl, (refl, refl), says_nobody.0 h.0)
-  to-verdict spot (inl (inr h)) =
+  to-verdict spot (inl (inl (inl h))) = subst (λ (s : Spot). By s s.problem) (sym h.1) (refl, refl, (refl, refl), says_nobody.0 h.0)
+  to-verdict spot (inl (inl (inr h))) =
       let k = says_anybody.0 h.0 in
       subst (λ (s : Spot). By s s.problem) (sym h.1) (refl, k.0, (refl, refl), k.1)
-  to-verdict spot (inr m) = subst (By spot) (sym m.of.problem_is) (m.number, m.of.rule, m.of.at, m.one)
+  to-verdict spot (inl (inr m)) = subst (By spot) (sym m.of.problem_is) (m.number, m.of.rule, m.of.at, m.one)
+  to-verdict spot (inr v) =
+      let m = v.of in
+      subst (By spot) (sym m.of.problem_is) (v.auth, v.somebody, (m.number, m.of.rule, m.of.at, m.one))
 
   from-verdict : (file : Option ℕ) (line : ℕ) (problem : Problem) →
       (let spot : Spot = record { file = file; line = line; problem = problem } in By spot problem → Parts spot)
   unfolding By Parts
   from-verdict file line (problems.LetsNobodyIn service kind) h =
-      inl (inl (
+      inl (inl (inl (
         says_nobody.1 h.3,
         same-spot _ _ h.2.0 h.2.1 (ap (λ s. problems.LetsNobodyIn s kind) h.0 ∙ ap (problems.LetsNobodyIn at.service) h.1),
-      ))
+      )))
   from-verdict file line (problems.LetsAnybodyIn service) h =
-      inl (inr (says_anybody.1 (h.1, h.3), same-spot _ _ h.2.0 h.2.1 (ap problems.LetsAnybodyIn h.0)))
+      inl (inl (inr (says_anybody.1 (h.1, h.3), same-spot _ _ h.2.0 h.2.1 (ap problems.LetsAnybodyIn h.0))))
   from-verdict file line problems.JumpPastEnd h =
-      inr record { number = h.0; one = h.3; of = record { problem_is = refl; rule = h.1; at = h.2 } }
+      inl (inr record { number = h.0; one = h.3; of = record { problem_is = refl; rule = h.1; at = h.2 } })
+  from-verdict file line problems.SuccessNeverCounts h =
+      let m = h.2 in
+      inr record {
+        auth = h.0;
+        somebody = h.1;
+        of = record { number = m.0; one = m.3; of = record { problem_is = refl; rule = m.1; at = m.2 } };
+      }
   from-verdict file line (problems.TooLarge service kind) h = absurd cc
   from-verdict file line (problems.OtherAnswers service kind) h = absurd h
   from-verdict file line (problems.Fault fault) h = absurd h
@@ -78,17 +105,20 @@ module _ (at : Stacked) (j : Judgement) (nobody anybody : Bool) (says_nobody : (
   from-verdict file line problems.CallerIsRoot h = absurd h
   from-verdict file line (problems.Argument argument wrong) h = absurd h
   from-verdict file line problems.EmptySeparator h = absurd h
+  from-verdict file line problems.UnknownModule h = absurd h
 
-  pub adds-judged : (old first second new : List Spot) →
+  pub adds-judged : (old first second third new : List Spot) →
       Adds (λ spot. (nobody ≡ true) × (spot ≡ spot_of at (problems.LetsNobodyIn at.service at.kind))) old first →
       Adds (λ spot. (anybody ≡ true) × (spot ≡ spot_of at (problems.LetsAnybodyIn at.service))) first second →
-      Adds (OfModules problems.JumpPastEnd j.items (λ number. Member number j.jumps)) second new →
+      Adds (OfModules problems.JumpPastEnd j.items (λ number. Member number j.jumps)) second third →
+      Adds (VainIn at.kind j) third new →
       Adds (λ spot. ByVerdict at.service at.kind at.home (Judged j) spot spot.problem) old new
   unfolding By Parts
-  adds-judged old first second new a b c =
+  adds-judged old first second third new a b c d =
       let A : Spot → Type 0 = λ spot. (nobody ≡ true) × (spot ≡ spot_of at (problems.LetsNobodyIn at.service at.kind)) in
       let B : Spot → Type 0 = λ spot. (anybody ≡ true) × (spot ≡ spot_of at (problems.LetsAnybodyIn at.service)) in
       let C : Spot → Type 0 = OfModules problems.JumpPastEnd j.items (λ number. Member number j.jumps) in
-      adds-iff (λ spot. (A spot ⊎ B spot) ⊎ C spot) (λ spot. ByVerdict at.service at.kind at.home (Judged j) spot spot.problem) old new
+      adds-iff (λ spot. ((A spot ⊎ B spot) ⊎ C spot) ⊎ Vain spot) (λ spot. ByVerdict at.service at.kind at.home (Judged j) spot spot.problem) old new
       (λ spot. (to-verdict spot, from-verdict spot.file spot.line spot.problem))
-      (adds-both (λ spot. A spot ⊎ B spot) C old second new (adds-both A B old first second a b) c)
+      (adds-both (λ spot. (A spot ⊎ B spot) ⊎ C spot) Vain old third new
+      (adds-both (λ spot. A spot ⊎ B spot) C old second third (adds-both A B old first second a b) c) d)

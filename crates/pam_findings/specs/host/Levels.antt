@@ -42,5 +42,6 @@ level_of problems.NoOther = Note
 level_of (problems.OtherAnswers service kind) = Note
 level_of problems.LeftOver = Note
 level_of problems.CallerIsRoot = Note
+level_of problems.UnknownModule = Note
 level_of (problems.Argument argument wrong) = level_of_argument wrong
 level_of problem = Warning

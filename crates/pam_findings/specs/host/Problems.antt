@@ -49,7 +49,7 @@ rank_of_argument arguments.Longer = 76
 rank_of_argument arguments.OtherKind = 77
 rank_of_argument arguments.BadValue = 78
 
--- E1 to E18 of lines come first, then those of walks, then L1 to L10, A5, and S1 to S18
+-- E1 to E18 of lines come first, then those of walks, then L1 to L10, A5, and S1 to S26
 abbrev pub rank_of : Problem → ℕ
 rank_of (problems.Fault fault) = rank_of_fault fault
 rank_of (problems.Walk fault) = 20 + rank_of_fault fault
@@ -70,6 +70,8 @@ rank_of problems.JumpIntoInclude = 72
 rank_of problems.NoFunction = 73
 rank_of problems.CallerIsRoot = 74
 rank_of (problems.Argument argument wrong) = rank_of_argument wrong
+rank_of problems.UnknownModule = 85
+rank_of problems.SuccessNeverCounts = 86
 
 abbrev pub number_of_kind : Kind → ℕ
 number_of_kind Auth = 0

@@ -1,5 +1,5 @@
 -- What is wrong with a stack.
-use Rattle.std.specs.Prelude.{◌≡◌, ◌⊎◌, ℕ, true, List, [], IsSome, MatchOption, slice_get, Option, Some, None}
+use Rattle.std.specs.Prelude.{◌≡◌, ◌⊎◌, ℕ, true, false, List, [], IsSome, MatchOption, slice_get, Option, Some, None}
 use Rattle.pam_conf.specs.FileRules.{good_rules}
 use Rattle.pam_conf.specs.Files.{Folder, bytes_at}
 use Rattle.pam_conf.specs.Rule.{RuleText}
@@ -15,7 +15,8 @@ use Rattle.pam_findings.specs.host.Arguments.{wrong_argument}
 use Rattle.pam_findings.specs.host.Callers.{caller_is_root}
 use Rattle.pam_findings.specs.host.Modules.{Modules}
 use Rattle.pam_findings.specs.host.Separators.{lacks_separator}
-use Rattle.pam_findings.specs.host.Verdicts.{Judged, Judgement, LetsNobody, Refused, TooLarge, Verdict}
+use Rattle.pam_findings.specs.host.UnknownModules.{IsUnknown}
+use Rattle.pam_findings.specs.host.Verdicts.{Judged, Judgement, LetsNobody, Refused, SaysWhoLogsIn, TooLarge, Verdict}
 use Rattle.pam_findings.specs.host.Verdicts.{answers_on, has_no_function, is_missing, is_other, never_asked_in, way_in_of}
 use Rattle.pam_findings.specs.declared.host.problem.Problem.{Problem}
 use Rattle.pam_findings.specs.declared.host.problem.Problem.TheVariants as problems
@@ -40,13 +41,14 @@ pub record IsAt (items : Items) (number : ℕ) (spot : Spot) (rule : ModuleText)
 abbrev pub HasModule : Items → Spot → (ℕ → ModuleText → Type 0) → Type 0
 HasModule items spot Passes = (number : ℕ) × (rule : ModuleText) × IsAt items number spot rule × Passes number rule
 
--- A5, S5, S13 to S18, in a stack of a service for a kind; and S3, if no stack may ask it
+-- A5, S5, S13 to S18, S25, in a stack of a service for a kind; and S3, if no stack may ask it
 abbrev pub ModuleHas : Modules → List ℕ → Kind → ModuleText → Problem → Type 0
 ModuleHas modules name kind rule problems.NeverAsked = is_other rule ≡ true
 ModuleHas modules name kind rule problems.EmptySeparator = lacks_separator rule ≡ true
 ModuleHas modules name kind rule (problems.NoModule is_dashed) = (is_missing modules rule ≡ true) × (is_dashed ≡ rule.dashed)
 ModuleHas modules name kind rule problems.NoFunction = has_no_function modules.facts kind rule ≡ true
 ModuleHas modules name kind rule problems.CallerIsRoot = caller_is_root kind name rule ≡ true
+ModuleHas modules name kind rule problems.UnknownModule = IsUnknown modules kind rule
 ModuleHas modules name kind rule (problems.Argument argument wrong) = wrong_argument kind rule argument ≡ Some wrong
 ModuleHas modules name kind rule problem = ⊥
 
@@ -86,12 +88,19 @@ Jumps Refused spot = ⊥
 Jumps TooLarge spot = ⊥
 Jumps (Judged j) spot = HasModule j.items spot (λ number rule. Member number j.jumps)
 
+-- S26: somebody is let in, but never after the success of a module that says who logs in
+abbrev pub SucceedsInVain : Verdict → Spot → Type 0
+SucceedsInVain Refused spot = ⊥
+SucceedsInVain TooLarge spot = ⊥
+SucceedsInVain (Judged j) spot =
+    (j.nobody ≡ false) × HasModule j.items spot (λ number rule. Member number j.never_counts × SaysWhoLogsIn j.failing number)
+
 -- BY THE VERDICT on the stack of a service for a kind, where a whole stack is at line 0 of the file of its first rules
 
 abbrev pub IsHome : Option ℕ → Spot → Type 0
 IsHome home spot = (spot.file ≡ home) × (spot.line ≡ 0)
 
--- S1, S2, S4 and S9
+-- S1, S2, S4, S9 and S26
 abbrev pub ByVerdict : ℕ → Kind → Option ℕ → Verdict → Spot → Problem → Type 0
 ByVerdict service kind home verdict spot (problems.LetsNobodyIn of_service of_kind) =
     (of_service ≡ service) × (of_kind ≡ kind) × IsHome home spot × LetsNobody verdict
@@ -100,6 +109,7 @@ ByVerdict service kind home verdict spot (problems.LetsAnybodyIn of_service) =
 ByVerdict service kind home verdict spot (problems.TooLarge of_service of_kind) =
     (of_service ≡ service) × (of_kind ≡ kind) × IsHome home spot × (verdict ≡ TooLarge)
 ByVerdict service kind home verdict spot problems.JumpPastEnd = Jumps verdict spot
+ByVerdict service kind home verdict spot problems.SuccessNeverCounts = (kind ≡ Auth) × SucceedsInVain verdict spot
 ByVerdict service kind home verdict spot problem = ⊥
 
 -- A PROBLEM OF A STACK itself, by the survey of a service and the verdict

@@ -6,11 +6,13 @@ use Rattle.std.specs.Option.{option_map_or}
 use Rattle.pam_codes.specs.Code.{auth_err}
 use Rattle.pam_codes.specs.Set.{codes_where, is_in}
 use Rattle.pam_findings.specs.stack.Asked.{AreExactly, IsNeverAsked, JumpsPastEnd}
+use Rattle.pam_findings.specs.stack.Counting.{NeverCounts}
 use Rattle.pam_findings.specs.stack.Soundness.{HasTooManyPlaces, SaysNobody, SaysWayIn}
 use Rattle.pam_conf.specs.Files.{Folder}
 use Rattle.pam_conf.specs.Resolution.{resolved}
 use Rattle.pam_conf.specs.Stack.{Items, ModuleText, module_at, module_count}
 use Rattle.pam_conf.specs.declared.rule.Kind.{Kind}
+use Rattle.pam_dispatch.specs.State.{success}
 use Rattle.pam_facts.specs.Answers.{Allows, failing_answers, free_answers, is_there}
 use Rattle.pam_facts.specs.Facts.{has_function}
 use Rattle.pam_facts.specs.Fitting.{fact_of}
@@ -24,7 +26,8 @@ use Rattle.pam_findings.specs.host.Modules.{Modules}
 use Rattle.pam_findings.specs.declared.host.way_in.Answered.{Answered}
 
 -- what is found of a stack: its items; the answers that its modules can give, and those if each check fails; whether nobody is
--- let in, the first way in if each check fails, the modules that are never asked, and those that can jump past the end of their list
+-- let in, the first way in if each check fails, the modules that are never asked, those that can jump past the end of their list, and
+-- those whose success never counts
 pub record Judgement : Type 0 where
   pub items : Items
   pub free : Known
@@ -33,6 +36,7 @@ pub record Judgement : Type 0 where
   pub way : Option PathValue
   pub never_asked : List ℕ
   pub jumps : List ℕ
+  pub never_counts : List ℕ
 
 pub data Verdict : Type 0 where
   Refused : Verdict
@@ -56,6 +60,7 @@ module _ (folder : Folder) (modules : Modules) (service : List ℕ) (kind : Kind
     pub way : SaysWayIn (may_answer j.failing) j.items j.way
     pub never_asked : AreExactly (IsNeverAsked (may_answer j.free) j.items) j.never_asked
     pub jumps : AreExactly (JumpsPastEnd (may_answer j.free) j.items) j.jumps
+    pub never_counts : AreExactly (NeverCounts (may_answer j.free) j.items) j.never_counts
 
   -- its runs come to more places than a graph has nodes
   pub record IsTooLarge : Type 0 where
@@ -100,6 +105,10 @@ abbrev pub never_asked_in : Verdict → List ℕ
 never_asked_in Refused = []
 never_asked_in TooLarge = []
 never_asked_in (Judged j) = j.never_asked
+
+-- a module that may succeed says who logs in: it does not succeed if each check fails
+abbrev pub SaysWhoLogsIn : Known → ℕ → Type 0
+SaysWhoLogsIn failing number = may_answer failing number success ≡ false
 
 -- S5: a module is not there
 abbrev pub is_missing : Modules → ModuleText → Bool

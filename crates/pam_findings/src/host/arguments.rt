@@ -63,7 +63,7 @@ fn push_known(
 }
 
 /// What is known of the arguments of a rule's module.
-fn known_of(arguments: &Arguments, module: &Module) -> Option<Known<'static>>
+pub(crate) fn known_of(arguments: &Arguments, module: &Module) -> Option<Known<'static>>
     ensures { option_map module_view result ≡ known_of (module_text «module».now) }
 {
     match module_name(&module.path) {

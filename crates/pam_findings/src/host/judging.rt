@@ -1,16 +1,16 @@
 //! The verdict on a stack.
 
-ghost use Rattle.std.specs.Prelude.{◌≡◌, IfOk, IsFalse, IsSome, IsTrue, List, OnOk, Ok, ℕ, true};
+ghost use Rattle.std.specs.Prelude.{◌≡◌, IfOk, IsFalse, IsSome, IsTrue, List, OnOk, Ok, ℕ, false, true};
 ghost use Rattle.pam_conf.specs.Files.{Folder};
 ghost use Rattle.pam_conf.specs.Resolution.{resolved};
 ghost use Rattle.pam_paths.specs.declared.knowledge.Known.{Known as KnownText};
-ghost use Rattle.pam_findings.specs.host.inner.Looked.{Judges, judgement_of};
+ghost use Rattle.pam_findings.specs.host.inner.Looked.{Judges, VainIn, judgement_of};
 ghost use Rattle.pam_findings.specs.host.StackProblems.{ByVerdict, HasWayIn};
 ghost use Rattle.pam_findings.specs.host.inner.Table.{Adds};
 ghost use Rattle.pam_findings.specs.host.Verdicts.{HasOther, Judged};
 
 use crate::host::known_modules::Modules;
-use crate::host::modules::{has_other, push_asked, push_jumps};
+use crate::host::modules::{has_other, push_asked, push_jumps, push_never_counting};
 use crate::host::problem::{Problem, Spot};
 use crate::host::way_in::{WayIn, answers_on};
 use crate::stack::Soundness;
@@ -62,15 +62,41 @@ fn lets_anybody_in(kind: Kind, soundness: &Soundness) -> bool
     kind == Kind::Auth && soundness.lets_anybody_in.is_some()
 }
 
-/// Appends S1, S2 and S4 of a stack.
+/// Whether a stack of `auth` lets somebody in.
+fn lets_somebody_in(kind: Kind, soundness: &Soundness) -> bool
+    ensures yes { IsTrue result → (kind ≡ Kind.Auth) × (soundness.now.lets_nobody_in ≡ false) }
+    ensures no { IsFalse result → kind ≡ Kind.Auth → soundness.now.lets_nobody_in ≡ false → ⊥ }
+{
+    kind == Kind::Auth && !soundness.lets_nobody_in
+}
+
+/// Appends S26 of a stack of `auth` that lets somebody in.
+fn push_vain(
+    spots: &mut Vec<Spot>,
+    kind: Kind,
+    stack: &Stack,
+    failing: &Known,
+    soundness: &Soundness,
+) -> Result<(), AllocError>
+    ensures { (free : KnownText) →
+        OnOk result (Adds (VainIn kind (judgement_of stack.now free failing.now soundness.now)) spots.old.items spots.new.items) }
+{
+    if lets_somebody_in(kind, soundness) {
+        push_never_counting(spots, stack, failing, &soundness.never_counts)?;
+    }
+    Ok(())
+}
+
+/// Appends S1, S2, S4 and S26 of a stack.
 fn push_judged(
     spots: &mut Vec<Spot>,
     at: Stacked,
     stack: &Stack,
+    failing: &Known,
     soundness: &Soundness,
 ) -> Result<(), AllocError>
-    ensures { (free failing : KnownText) → OnOk result (Adds
-        (λ spot. ByVerdict at.service at.kind at.home (Judged (judgement_of stack.now free failing soundness.now)) spot spot.problem)
+    ensures { (free : KnownText) → OnOk result (Adds
+        (λ spot. ByVerdict at.service at.kind at.home (Judged (judgement_of stack.now free failing.now soundness.now)) spot spot.problem)
         spots.old.items spots.new.items) }
 {
     let nobody = lets_nobody_in(stack, soundness);
@@ -93,6 +119,7 @@ fn push_judged(
         },
     )?;
     push_jumps(spots, stack, &soundness.jumps_past_end)?;
+    push_vain(spots, at.kind, stack, failing, soundness)?;
     Ok(())
 }
 
@@ -133,7 +160,7 @@ pub(crate) fn judge(
     let failing = modules.answers_if_checks_fail(&stack, at.kind);
     match Soundness::of(alloc, &stack, &free, &failing) {
         Ok(soundness) => {
-            push_judged(spots, at, &stack, &soundness)?;
+            push_judged(spots, at, &stack, &failing, &soundness)?;
             push_asked(asked, &stack, &soundness.never_asked)?;
             way_into(alloc, at.kind, stack, &failing, &soundness)
         }

@@ -1,13 +1,16 @@
 //! What is known of the modules of a host.
 
-ghost use Rattle.std.specs.Prelude.{◌≡◌};
+ghost use Rattle.std.specs.Prelude.{◌≡◌, IsFalse, IsTrue};
 ghost use Rattle.std.specs.Option.{option_map};
 ghost use Rattle.pam_conf.specs.ItemsOf.{module_text};
+ghost use Rattle.pam_facts.specs.Facts.{unknown};
+ghost use Rattle.pam_findings.specs.host.UnknownModules.{IsUnknown};
 ghost use Rattle.pam_findings.specs.host.Verdicts.{IsFailing, IsFree, has_no_function, is_missing};
 
+use crate::host::arguments::known_of;
 use pam_arguments::Arguments;
 use pam_conf::{Kind, Module, Stack};
-use pam_facts::{Facts, is_there};
+use pam_facts::{Fact, Facts, is_there};
 use pam_paths::Known;
 use pam_text::Texts;
 use std::marker::Model;
@@ -18,6 +21,14 @@ pub(crate) struct Modules<'x, 'f> {
     facts: &'x Facts<'f>,
     arguments: &'x Arguments,
     there: Option<&'x Texts>,
+}
+
+/// Whether a fact is that of a module of which nothing is known.
+fn says_nothing(fact: Fact) -> bool
+    ensures yes { IsTrue result → fact ≡ unknown }
+    ensures no { IsFalse result → fact ≡ unknown → ⊥ }
+{
+    fact == Fact::unknown()
 }
 
 impl<'x, 'f> Model for Modules<'x, 'f> {
@@ -64,6 +75,17 @@ impl<'x, 'f> Modules<'x, 'f> {
             .facts
             .of(&module.path, &module.arguments)
             .has_function(kind)
+    }
+
+    /// Whether nothing is known of a module that is taken for one that checks who logs in: S25.
+    pub(crate) fn is_unknown(&self, module: &Module, kind: Kind) -> bool
+        ensures yes { IsTrue result → IsUnknown self.now kind (module_text «module».now) }
+        ensures no { IsFalse result → IsUnknown self.now kind (module_text «module».now) → ⊥ }
+    {
+        kind == Kind::Auth
+            && !self.is_missing(module)
+            && says_nothing(self.facts.of(&module.path, &module.arguments))
+            && known_of(self.arguments, module).is_none()
     }
 
     /// The codes that the modules of a stack can answer.

@@ -61,6 +61,7 @@ impl Problem {
             | Problem::OtherAnswers { .. }
             | Problem::LeftOver
             | Problem::CallerIsRoot
+            | Problem::UnknownModule
             | Problem::NoModule { is_dashed: true } => Level::Note,
             Problem::IncludedFromVendor {
                 is_at_include: false,
@@ -70,6 +71,7 @@ impl Problem {
             | Problem::LetsAnybodyIn { .. }
             | Problem::JumpPastEnd
             | Problem::JumpIntoInclude
+            | Problem::SuccessNeverCounts
             | Problem::NoModule { is_dashed: false }
             | Problem::UnreachableName
             | Problem::TooLarge { .. }

@@ -5,19 +5,23 @@ ghost use Rattle.std.specs.List.{list_any};
 ghost use Rattle.std.specs.Option.{option_map_or};
 ghost use Rattle.pam_conf.specs.ItemsOf.{module_text};
 ghost use Rattle.pam_conf.specs.Stack.{module_at};
+ghost use Rattle.pam_dispatch.specs.State.{success};
+ghost use Rattle.pam_paths.specs.Known.{may_answer};
 ghost use Rattle.pam_text.specs.Members.{Member};
 ghost use Rattle.pam_findings.specs.host.inner.Looked.{OfModule, OfModules, OfRule, spot_at};
 ghost use Rattle.pam_findings.specs.host.StackProblems.{InItems};
 ghost use Rattle.pam_findings.specs.host.inner.Table.{Adds};
-ghost use Rattle.pam_findings.specs.host.Verdicts.{HasOther, is_other};
+ghost use Rattle.pam_findings.specs.host.Verdicts.{HasOther, SaysWhoLogsIn, is_other};
 
 use crate::host::arguments::push_arguments;
 use crate::host::callers::caller_is_root;
 use crate::host::known_modules::Modules;
 use crate::host::problem::{Problem, Spot};
 use crate::host::separators::lacks_separator;
+use pam_codes::Code;
 use pam_conf::{Kind, Module, Stack};
 use pam_facts::module_name;
+use pam_paths::{Knowledge, Known};
 use std::alloc::AllocError;
 
 /// A problem of a module, at its line.
@@ -62,7 +66,7 @@ fn push_if(
     Ok(())
 }
 
-/// Appends the problems that a module of a stack has by itself: A5, S5, S13 to S18, and S3 if no stack may ask it.
+/// Appends the problems that a module of a stack has by itself: A5, S5, S13 to S18, S25, and S3 if no stack may ask it.
 fn push_of_rule(
     spots: &mut Vec<Spot>,
     modules: &Modules<'_, '_>,
@@ -84,6 +88,8 @@ fn push_of_rule(
     let lacks_separator = lacks_separator(module);
     push_if(spots, module, lacks_separator, Problem::EmptySeparator)?;
     push_arguments(spots, modules.arguments(), kind, module)?;
+    let is_unknown = modules.is_unknown(module, kind);
+    push_if(spots, module, is_unknown, Problem::UnknownModule)?;
     Ok(())
 }
 
@@ -117,6 +123,47 @@ pub(crate) fn push_jumps(
 {
     for number in numbers {
         push_module(spots, stack, *number, Problem::JumpPastEnd)?;
+    }
+    Ok(())
+}
+
+/// Whether a module may succeed.
+fn may_succeed(known: &Known, number: usize) -> bool
+    ensures { result ≡ may_answer known.now number success }
+{
+    known.allowed(number).contains(Code::SUCCESS)
+}
+
+/// Appends S26 of the module with this number, if it says who logs in.
+fn push_if_checks(
+    spots: &mut Vec<Spot>,
+    stack: &Stack,
+    failing: &Known,
+    number: usize,
+) -> Result<(), AllocError>
+    ensures { OnOk result (Adds (λ spot. SaysWhoLogsIn failing.now number × OfModule Problem.SuccessNeverCounts stack.now number spot)
+        spots.old.items spots.new.items) }
+{
+    if may_succeed(failing, number) {
+        return Ok(());
+    }
+    push_module(spots, stack, number, Problem::SuccessNeverCounts)?;
+    Ok(())
+}
+
+/// Appends S26 of the modules with these numbers, whose success never counts, that say who logs in.
+pub(crate) fn push_never_counting(
+    spots: &mut Vec<Spot>,
+    stack: &Stack,
+    failing: &Known,
+    numbers: &[usize],
+) -> Result<(), AllocError>
+    ensures { OnOk result (Adds
+        (OfModules Problem.SuccessNeverCounts stack.now (λ number. Member number numbers.now × SaysWhoLogsIn failing.now number))
+        spots.old.items spots.new.items) }
+{
+    for number in numbers {
+        push_if_checks(spots, stack, failing, *number)?;
     }
     Ok(())
 }

@@ -62,7 +62,7 @@ pub enum Problem {
     NoOther,
     /// S7: the name of a file has a capital letter, but services are looked up in lowercase, and no rule includes the file.
     UnreachableName,
-    /// S9: the graph of a stack has more nodes than the limit, so S1 to S4 are not known for it.
+    /// S9: the graph of a stack has more nodes than the limit, so S1 to S4 and S26 are not known for it.
     TooLarge {
         /// The position of the service in `HostReport::services`.
         service: usize,
@@ -89,6 +89,10 @@ pub enum Problem {
         argument: usize,
         wrong: ArgumentProblem,
     },
+    /// S25: nothing is known of a module of an `auth` stack, so it is taken for one that checks who logs in.
+    UnknownModule,
+    /// S26: the success of a module that says who logs in never makes an `auth` stack succeed, though others let somebody in.
+    SuccessNeverCounts,
 }
 
 /// A problem at a line of a file.
@@ -220,6 +224,8 @@ impl Problem {
             Problem::NoFunction => 73,
             Problem::CallerIsRoot => 74,
             Problem::Argument { wrong, .. } => rank_of_argument(wrong),
+            Problem::UnknownModule => 85,
+            Problem::SuccessNeverCounts => 86,
         }
     }
 
@@ -247,7 +253,9 @@ impl Problem {
             | Problem::LeftOver
             | Problem::JumpIntoInclude
             | Problem::NoFunction
-            | Problem::CallerIsRoot => (0, 0),
+            | Problem::CallerIsRoot
+            | Problem::UnknownModule
+            | Problem::SuccessNeverCounts => (0, 0),
         }
     }
 }

@@ -37,7 +37,9 @@ fn wrong_of(problem: Problem) -> Option<Wrong>
         | Problem::LeftOver
         | Problem::JumpIntoInclude
         | Problem::NoFunction
-        | Problem::CallerIsRoot => None,
+        | Problem::CallerIsRoot
+        | Problem::UnknownModule
+        | Problem::SuccessNeverCounts => None,
     }
 }
 

@@ -3,6 +3,7 @@
 ghost use Rattle.std.specs.Prelude.{IfErr, IfOk};
 ghost use Rattle.pam_paths.specs.Known.{may_answer};
 ghost use Rattle.pam_findings.specs.stack.Asked.{AreExactly, IsNeverAsked, JumpsPastEnd};
+ghost use Rattle.pam_findings.specs.stack.Counting.{NeverCounts};
 ghost use Rattle.pam_findings.specs.stack.inner.Marks.{AreMarks};
 ghost use Rattle.pam_findings.specs.stack.Soundness.{IsReasonFor, SaysNobody, SaysWayIn};
 
@@ -26,6 +27,8 @@ pub struct Soundness {
     pub never_asked: Vec<usize>,
     /// The numbers of the modules that can jump past the end of their list, rising.
     pub jumps_past_end: Vec<usize>,
+    /// The numbers of the modules that may succeed, after which the stack never does, rising.
+    pub never_counts: Vec<usize>,
 }
 
 /// What the graphs of a stack's runs tell of it.
@@ -71,6 +74,7 @@ impl Soundness {
         ensures anybody { IfOk result (λ s. SaysWayIn (may_answer failing.now) stack.now s.lets_anybody_in) }
         ensures never_asked { IfOk result (λ s. AreExactly (IsNeverAsked (may_answer free.now) stack.now) s.never_asked.items) }
         ensures jumps { IfOk result (λ s. AreExactly (JumpsPastEnd (may_answer free.now) stack.now) s.jumps_past_end.items) }
+        ensures never_counts { IfOk result (λ s. AreExactly (NeverCounts (may_answer free.now) stack.now) s.never_counts.items) }
         ensures reason { IfErr result (IsReasonFor (may_answer free.now) (may_answer failing.now) stack.now) }
     {
         let searched = Searched::of(alloc, stack, free, failing)?;
@@ -81,6 +85,7 @@ impl Soundness {
             lets_anybody_in: searched.lets_anybody_in,
             never_asked,
             jumps_past_end,
+            never_counts: Vec::new(alloc),
         })
     }
 }

@@ -97,6 +97,15 @@ no_function_sentence = codes "the module has no function for this kind, so it al
 abbrev pub caller_sentence : List ℕ
 caller_sentence = codes "the module looks at the user of the process, which in this service is always root; remove the rule"
 
+abbrev pub unknown_module_sentence : List ℕ
+unknown_module_sentence =
+    codes "nothing is known of the module, so it is taken for one that checks who logs in; a row of a facts file says what it does"
+
+-- S26
+abbrev pub vain_sentence : List ℕ
+vain_sentence =
+    codes "whenever the module answers success, the stack fails, whatever other modules answer; mend its control, or what a success leads to"
+
 -- S15 to S18, where the argument is not known
 abbrev pub argument_sentence : List ℕ
 argument_sentence = codes "an argument is not one that the module takes; mend it, or remove it"
@@ -155,6 +164,8 @@ problem_sentence problems.JumpIntoInclude = inside_sentence
 problem_sentence problems.NoFunction = no_function_sentence
 problem_sentence problems.CallerIsRoot = caller_sentence
 problem_sentence (problems.Argument argument wrong) = argument_sentence
+problem_sentence problems.UnknownModule = unknown_module_sentence
+problem_sentence problems.SuccessNeverCounts = vain_sentence
 
 -- WHAT IS SAID of a problem at a line, with the word that is wrong if it is known
 abbrev pub said : ℕ → Problem → Option MisspelledText → List ℕ

@@ -3,6 +3,7 @@ use Rattle.pam_explain.specs.Arguments.{argument_of_other_kind, bad_value as bad
 use Rattle.pam_explain.specs.Explanations.{families}
 use Rattle.pam_explain.specs.Hosts.{caller_is_root, jump_into_include, jump_past_end, left_over, lets_anybody_in, lets_nobody_in, never_asked}
 use Rattle.pam_explain.specs.Hosts.{no_function, no_module, no_other, nothing_accepted, other_answers, too_large, unreachable_name}
+use Rattle.pam_explain.specs.Modules.{success_never_counts, unknown_module}
 use Rattle.pam_explain.specs.Named.{failed_read, failed_write, no_such_service, unused_candidate}
 use Rattle.pam_explain.specs.OldTables.{blank_in_token, empty_separator, finish_minute, leading_blank, long_field, loopback, mask_digits}
 use Rattle.pam_explain.specs.OldTables.{no_line_feed_in_access_table, no_line_feed_in_time_table, odd_bytes, zero_mask}
@@ -35,4 +36,5 @@ unfolding families caller_is_root jump_into_include jump_past_end left_over lets
     login memory_of_words moment no_such_key no_such_module no_such_number not_utf8 failed_read release_form setting_form source failed_write
     no_such_service unused_candidate
     argument_of_other_kind bad_value_of_arguments longer_word unknown_argument
+    success_never_counts unknown_module
 returns c = refl

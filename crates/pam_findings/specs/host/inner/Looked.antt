@@ -1,5 +1,5 @@
 -- For private contracts and proofs alone: what is seen of a stack.
-use Rattle.std.specs.Prelude.{◌≡◌, ℕ, List, [], MatchOption, Option, Some}
+use Rattle.std.specs.Prelude.{◌≡◌, ℕ, false, List, [], MatchOption, Option, Some}
 use Rattle.pam_findings.specs.declared.stack.soundness.Soundness.{Soundness}
 use Rattle.pam_conf.specs.Files.{Folder}
 use Rattle.pam_conf.specs.Stack.{Items, ModuleText, module_at}
@@ -8,10 +8,11 @@ use Rattle.pam_conf.specs.declared.conf_error.ConfError.{ConfError}
 use Rattle.pam_conf.specs.declared.rule.Kind.{Kind}
 use Rattle.pam_conf.specs.declared.rule.Kind.TheVariants.{Auth}
 use Rattle.pam_paths.specs.declared.knowledge.Known.{Known}
+use Rattle.pam_text.specs.Members.{Member}
 use Rattle.pam_findings.specs.host.Modules.{Modules}
 use Rattle.pam_findings.specs.host.StackProblems.{ByVerdict, HasWayIn, InStack, IsAt, MayAsk, ModuleHas}
 use Rattle.pam_findings.specs.host.inner.Table.{Adds}
-use Rattle.pam_findings.specs.host.Verdicts.{IsVerdict, Judgement, Verdict}
+use Rattle.pam_findings.specs.host.Verdicts.{IsVerdict, Judgement, SaysWhoLogsIn, Verdict}
 use Rattle.pam_findings.specs.declared.host.judging.Stacked.{Stacked}
 use Rattle.pam_findings.specs.declared.host.problem.Problem.{Problem}
 use Rattle.pam_findings.specs.declared.host.problem.Problem.TheVariants as problems
@@ -56,7 +57,14 @@ judgement_of items free failing s = record {
   way = s.lets_anybody_in;
   never_asked = s.never_asked.items;
   jumps = s.jumps_past_end.items;
+  never_counts = s.never_counts.items;
 }
+
+-- S26 of a module of a stack that is judged
+pub record VainIn (kind : Kind) (j : Judgement) (spot : Spot) : Type 0 where
+  pub auth : kind ≡ Auth
+  pub somebody : j.nobody ≡ false
+  pub of : OfModules problems.SuccessNeverCounts j.items (λ number. Member number j.never_counts × SaysWhoLogsIn j.failing number) spot
 
 -- the rules that a stack may ask, as S3 of them
 pub record Asks (items : Option Items) (verdict : Verdict) (spot : Spot) : Type 0 where

@@ -28,8 +28,9 @@ returns-in-Ok c folder name stack =
         way = c.in-Ok.ensures.anybody;
         never_asked = c.in-Ok.ensures.never_asked;
         jumps = c.in-Ok.ensures.jumps;
+        never_counts = c.in-Ok.ensures.never_counts;
       };
-      adds = c.in_ok-push_judged-in-Ok.ensures free failing;
+      adds = c.in_ok-push_judged-in-Ok.ensures free;
       asks = asks-of c.args.stack (Judged j) c.args.asked.now.items c.push_asked.new.asked.items
           (subst (λ (numbers : List ℕ). Adds (OfModules problems.NeverAsked c.args.stack (λ number. Member number numbers → ⊥))
           c.args.asked.now.items c.push_asked.new.asked.items) c.deref.ensures.value c.in_ok-push_asked-in-Ok.ensures);
