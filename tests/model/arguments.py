@@ -1,4 +1,4 @@
-"""The arguments of modules, read plainly from `docs/SPECIFICATION.md`: S15 to S18.
+"""The arguments of modules, read plainly from `docs/SPECIFICATION.md`: S15 to S18, and S23.
 
 What modules know is the table of the program, `crates/pam_arguments/src/table.rt`, which is data and no code."""
 import re
@@ -15,8 +15,9 @@ PATTERNS = {b"number": rb"[-+]?[0-9]+", b"number-or-never": rb"[-+]?[0-9]+|never
 SAID = {"S15": (b" knows no argument ", b"", b"mend it, or remove it"),
         "S16": (b" takes ", b" for an argument that it begins with", b"write that argument"),
         "S17": (b" does not read ", b" in this kind", b"remove it"),
-        "S18": (b" cannot use the value of ", b"", b"write one that its manual page names")}
-NAMES = {"S15": "UnknownArgument", "S16": "LongerWord", "S17": "ArgumentOfOtherKind", "S18": "BadValue"}
+        "S18": (b" cannot use the value of ", b"", b"write one that its manual page names"),
+        "S23": (b" stores passwords by a weak hash with ", b"", b"write yescrypt in its place")}
+NAMES = {"S15": "UnknownArgument", "S16": "LongerWord", "S17": "ArgumentOfOtherKind", "S18": "BadValue", "S23": "WeakHash"}
 KINDS = [b"auth", b"account", b"password", b"session"]
 REACTIONS = [b"ignores", b"logs", b"fails"]
 
@@ -35,6 +36,8 @@ class Row:
     def __init__(self, word, kinds):
         form, _, own = word.partition(b"@")
         self.kinds = (own or kinds).split(b",")
+        form, _, weak = form.partition(b"!")
+        self.weak_in = weak.split(b",")
         marks, self.argument, value = re.fullmatch(rb"([*?~]*)([^:]*)(?::(.*))?", form).groups()
         self.flags = re.I if b"*" in marks else 0
         self.value = value and (PATTERNS.get(value) or b"|".join(map(re.escape, value.split(b"|"))))
@@ -71,6 +74,8 @@ def wrong(name, kind, word):
     longer = [row for row in rows(name) if row.longer and row.longer.fullmatch(word)]
     for row in whole:
         if kind in row.kinds:
+            if kind in row.weak_in:
+                return "S23", 0
             value = word.partition(b"=")[2] if b"=" in word else None
             is_right = row.value is None or value is None or re.fullmatch(row.value, value)
             return None if is_right else ("S18", 0)

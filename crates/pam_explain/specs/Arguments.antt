@@ -83,6 +83,27 @@ bad_value =
       mending = codes "write a value as the manual page of the module names it.";
     }
 
+unfoldable pub weak_hash : Explanation
+weak_hash =
+    record {
+      number = codes "S23";
+      name = codes "WeakHash";
+      level = Warning;
+      meaning =
+          codes "A rule has pam_unix store passwords by md5, des or bigcrypt. These hashes are\n"
+          ++ codes "computed so fast that who can read them tries millions of passwords a second.\n"
+          ++ codes "With des, no more than eight characters of a password count.";
+      example =
+          codes "# passwd\n"
+          ++ codes "password required pam_unix.so md5";
+      linux_pam =
+          codes "1.5.2 and 1.7.0 store by the hash that the rule names, and\n"
+          ++ codes "check a password by whichever hash is stored.";
+      mending =
+          codes "write yescrypt in its place. Passwords that are stored\n"
+          ++ codes "already keep their hash until they are changed.";
+    }
+
 -- THE ROWS, in the order of their numbers
 abbrev pub of_arguments : List Explanation
-of_arguments = unknown_argument ∷ longer_word ∷ argument_of_other_kind ∷ bad_value ∷ []
+of_arguments = unknown_argument ∷ longer_word ∷ argument_of_other_kind ∷ bad_value ∷ weak_hash ∷ []

@@ -20,6 +20,7 @@ argument_name (arguments.Unknown reaction) = codes "S15 UnknownArgument"
 argument_name arguments.Longer = codes "S16 LongerWord"
 argument_name arguments.OtherKind = codes "S17 ArgumentOfOtherKind"
 argument_name arguments.BadValue = codes "S18 BadValue"
+argument_name arguments.Weak = codes "S23 WeakHash"
 
 -- the number and the name
 unfoldable pub problem_name : Problem → List ℕ

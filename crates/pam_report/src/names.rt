@@ -27,6 +27,7 @@ fn argument_name(wrong: ArgumentProblem) -> &'static str
         ArgumentProblem::Longer => "S16 LongerWord",
         ArgumentProblem::OtherKind => "S17 ArgumentOfOtherKind",
         ArgumentProblem::BadValue => "S18 BadValue",
+        ArgumentProblem::Weak => "S23 WeakHash",
     }
 }
 

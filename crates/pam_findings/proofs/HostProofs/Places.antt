@@ -83,7 +83,8 @@ other_numbered n service kind =
     else if nat_lt n 23 then problems.JumpIntoInclude
     else if nat_lt n 24 then problems.NoFunction
     else if nat_lt n 25 then problems.CallerIsRoot
-    else problems.Argument service (wrong_numbered (n - 25) kind)
+    else if nat_lt n 29 then problems.Argument service (wrong_numbered (n - 25) kind)
+    else problems.Argument service arguments.Weak
 
 -- the problem with this rank, service and kind
 problem_of : ℕ → ℕ → ℕ → Problem
@@ -187,6 +188,7 @@ of_argument argument (arguments.Unknown Fails) = refl
 of_argument argument arguments.Longer = refl
 of_argument argument arguments.OtherKind = refl
 of_argument argument arguments.BadValue = refl
+of_argument argument arguments.Weak = refl
 
 of_problem : (problem : Problem) → problem_of (rank_of problem) (service_of problem) (kind_of problem) ≡ problem
 unfolding problem_of

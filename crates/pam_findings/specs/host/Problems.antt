@@ -48,8 +48,9 @@ rank_of_argument (arguments.Unknown reaction) = 75
 rank_of_argument arguments.Longer = 76
 rank_of_argument arguments.OtherKind = 77
 rank_of_argument arguments.BadValue = 78
+rank_of_argument arguments.Weak = 83
 
--- E1 to E18 of lines come first, then those of walks, then L1 to L10, A5, and S1 to S18
+-- E1 to E18 of lines come first, then those of walks, then L1 to L10, A5, and S1 to S23
 abbrev pub rank_of : Problem → ℕ
 rank_of (problems.Fault fault) = rank_of_fault fault
 rank_of (problems.Walk fault) = 20 + rank_of_fault fault

@@ -40,7 +40,7 @@ pub record IsAt (items : Items) (number : ℕ) (spot : Spot) (rule : ModuleText)
 abbrev pub HasModule : Items → Spot → (ℕ → ModuleText → Type 0) → Type 0
 HasModule items spot Passes = (number : ℕ) × (rule : ModuleText) × IsAt items number spot rule × Passes number rule
 
--- A5, S5, S13 to S18, in a stack of a service for a kind; and S3, if no stack may ask it
+-- A5, S5, S13 to S18, S23, in a stack of a service for a kind; and S3, if no stack may ask it
 abbrev pub ModuleHas : Modules → List ℕ → Kind → ModuleText → Problem → Type 0
 ModuleHas modules name kind rule problems.NeverAsked = is_other rule ≡ true
 ModuleHas modules name kind rule problems.EmptySeparator = lacks_separator rule ≡ true

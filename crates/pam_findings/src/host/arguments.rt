@@ -25,6 +25,7 @@ fn wrong_by(verdict: Verdict<'_>) -> Option<ArgumentProblem>
         Verdict::Longer(_) => Some(ArgumentProblem::Longer),
         Verdict::OtherKind => Some(ArgumentProblem::OtherKind),
         Verdict::BadValue(_) => Some(ArgumentProblem::BadValue),
+        Verdict::Weak => Some(ArgumentProblem::Weak),
     }
 }
 
@@ -72,7 +73,7 @@ fn known_of(arguments: &Arguments, module: &Module) -> Option<Known<'static>>
     }
 }
 
-/// Appends the wrong arguments of a rule: S15 to S18.
+/// Appends the wrong arguments of a rule: S15 to S18, and S23.
 pub(crate) fn push_arguments(
     spots: &mut Vec<Spot>,
     arguments: &Arguments,

@@ -39,8 +39,10 @@ fn level_of_argument(wrong: ArgumentProblem) -> Level
 {
     match wrong {
         ArgumentProblem::Unknown(Reaction::Ignores) | ArgumentProblem::OtherKind => Level::Note,
-        ArgumentProblem::Unknown(_) | ArgumentProblem::Longer | ArgumentProblem::BadValue =>
-            Level::Warning,
+        ArgumentProblem::Unknown(_)
+        | ArgumentProblem::Longer
+        | ArgumentProblem::BadValue
+        | ArgumentProblem::Weak => Level::Warning,
     }
 }
 

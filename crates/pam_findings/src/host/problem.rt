@@ -20,6 +20,8 @@ pub enum ArgumentProblem {
     OtherKind,
     /// S18: the module does not take its value.
     BadValue,
+    /// S23: with it the module stores passwords by a hash that is broken.
+    Weak,
 }
 
 /// What is wrong.
@@ -83,7 +85,7 @@ pub enum Problem {
     NoFunction,
     /// S14: a module of an `auth` stack looks at the user of the calling process, which is always root in this service.
     CallerIsRoot,
-    /// S15 to S18: an argument is not one that the module takes.
+    /// S15 to S18, S23: an argument is not one that the module takes, or not one to be written.
     Argument {
         /// The position of the argument in the rule, from 0.
         argument: usize,
@@ -180,7 +182,10 @@ fn reaction_of(wrong: ArgumentProblem) -> u8
 {
     match wrong {
         ArgumentProblem::Unknown(reaction) => number_of_reaction(reaction),
-        ArgumentProblem::Longer | ArgumentProblem::OtherKind | ArgumentProblem::BadValue => 0,
+        ArgumentProblem::Longer
+        | ArgumentProblem::OtherKind
+        | ArgumentProblem::BadValue
+        | ArgumentProblem::Weak => 0,
     }
 }
 
@@ -192,6 +197,7 @@ fn rank_of_argument(wrong: ArgumentProblem) -> u8
         ArgumentProblem::Longer => 76,
         ArgumentProblem::OtherKind => 77,
         ArgumentProblem::BadValue => 78,
+        ArgumentProblem::Weak => 83,
     }
 }
 

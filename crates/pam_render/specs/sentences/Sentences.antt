@@ -97,7 +97,7 @@ no_function_sentence = codes "the module has no function for this kind, so it al
 abbrev pub caller_sentence : List ℕ
 caller_sentence = codes "the module looks at the user of the process, which in this service is always root; remove the rule"
 
--- S15 to S18, where the argument is not known
+-- S15 to S18 and S23, where the argument is not known
 abbrev pub argument_sentence : List ℕ
 argument_sentence = codes "an argument is not one that the module takes; mend it, or remove it"
 
@@ -124,6 +124,8 @@ argument_naming arguments.Longer word =
 argument_naming arguments.OtherKind word = record { before = codes " does not read "; after = codes " in this kind"; mending = codes "remove it" }
 argument_naming arguments.BadValue word =
     record { before = codes " cannot use the value of "; after = []; mending = codes "write one that its manual page names" }
+argument_naming arguments.Weak word =
+    record { before = codes " stores passwords by a weak hash with "; after = []; mending = codes "write yescrypt in its place" }
 
 -- with the argument if it is known
 abbrev pub argument_text : ArgumentProblem → Option MisspelledText → List ℕ
