@@ -35,6 +35,13 @@ fn is_same(any_case: bool, word: &[u8], other: &[u8]) -> bool
     }
 }
 
+/// Whether a word begins so.
+pub(crate) fn begins(any_case: bool, word: &[u8], front: &[u8]) -> bool
+    ensures { result ≡ begins any_case word.now front.now }
+{
+    is_same(any_case, split(word, front.len()).0, front)
+}
+
 fn ends_in_equals(argument: &[u8]) -> bool
     ensures { result ≡ ends_in_equals argument.now }
 {
