@@ -104,6 +104,34 @@ fn bad_value() -> Explanation
     }
 }
 
+#[tactic(auto, unfolding(crate::specs::Arguments::bad_arguments))]
+fn bad_arguments() -> Explanation
+    ensures { explanation_view result ≡ spec.bad_arguments }
+{
+    Explanation {
+        number: "S19",
+        name: "BadArguments",
+        level: Level::Warning,
+        meaning: concat!(
+            "A rule has not all the arguments that its module needs: pam_exec no program,\n",
+            "pam_listfile no item=, sense= or file=, pam_userdb in auth no db=,\n",
+            "pam_usertype neither issystem nor isregular, or pam_succeed_if a condition\n",
+            "that is no field, test and value. So the module fails whoever logs in;\n",
+            "pam_listfile does what its onerr= says, which may be to succeed."
+        ),
+        example: concat!(
+            "# login\n",
+            "auth required pam_unix.so\n",
+            "session optional pam_exec.so quiet seteuid"
+        ),
+        linux_pam: concat!(
+            "1.5.2 and 1.7.0 leave arguments to the modules, which\n",
+            "answer service_err. pam_exec lets the first pass of password go on."
+        ),
+        mending: "write what is missing, as the manual page of the module has it.",
+    }
+}
+
 #[tactic(auto, unfolding(crate::specs::Arguments::weak_hash))]
 fn weak_hash() -> Explanation
     ensures { explanation_view result ≡ spec.weak_hash }
@@ -138,7 +166,8 @@ pub(crate) fn of_arguments(row: usize) -> Option<Explanation>
         1 => longer_word(),
         2 => argument_of_other_kind(),
         3 => bad_value(),
-        4 => weak_hash(),
+        4 => bad_arguments(),
+        5 => weak_hash(),
         _ => return None,
     })
 }

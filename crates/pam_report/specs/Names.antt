@@ -43,6 +43,7 @@ problem_name problems.JumpIntoInclude = codes "S12 JumpIntoInclude"
 problem_name problems.NoFunction = codes "S13 NoFunction"
 problem_name problems.CallerIsRoot = codes "S14 CallerIsRoot"
 problem_name (problems.Argument argument wrong) = argument_name wrong
+problem_name (problems.BadArguments lack) = codes "S19 BadArguments"
 
 -- the service and the kind of a problem of a whole stack
 abbrev pub stack_of : Problem → Option (ℕ × Kind)

@@ -55,6 +55,7 @@ pub fn problem_name(problem: Problem) -> &'static str
         Problem::NoFunction => "S13 NoFunction",
         Problem::CallerIsRoot => "S14 CallerIsRoot",
         Problem::Argument { wrong, .. } => argument_name(wrong),
+        Problem::BadArguments(_) => "S19 BadArguments",
     }
 }
 

@@ -40,7 +40,8 @@ module _ (modules : Modules) (name : List ℕ) (kind : Kind) (rule : ModuleText)
   to-rule spot (inl (inl (inl (inr h)))) = subst (OfRule modules name kind rule) (sym h.1) (record { file = refl; line = refl; has = h.0 })
   to-rule spot (inl (inl (inr h))) = subst (OfRule modules name kind rule) (sym h.1) (record { file = refl; line = refl; has = h.0 })
   to-rule spot (inl (inr h)) = subst (OfRule modules name kind rule) (sym h.1) (record { file = refl; line = refl; has = h.0 })
-  to-rule spot (inr h) = subst (OfRule modules name kind rule) (sym h.of.at) (record { file = refl; line = refl; has = h.of.is })
+  to-rule spot (inr (inl h)) = subst (OfRule modules name kind rule) (sym h.of.at) (record { file = refl; line = refl; has = h.of.is })
+  to-rule spot (inr (inr h)) = subst (OfRule modules name kind rule) (sym h.at) (record { file = refl; line = refl; has = h.is })
 
   from-rule : (file : Option ℕ) (line : ℕ) (problem : Problem) →
       (let spot : Spot = record { file = file; line = line; problem = problem } in OfRule modules name kind rule spot → Parts spot)
@@ -52,7 +53,8 @@ module _ (modules : Modules) (name : List ℕ) (kind : Kind) (rule : ModuleText)
   from-rule file line problems.CallerIsRoot h = inl (inl (inr (h.has, same-spot _ _ h.file h.line refl)))
   from-rule file line problems.EmptySeparator h = inl (inr (h.has, same-spot _ _ h.file h.line refl))
   from-rule file line (problems.Argument argument wrong) h =
-      inr (record { position = argument; of = record { wrong = wrong; is = h.has; at = same-spot _ _ h.file h.line refl } })
+      inr (inl (record { position = argument; of = record { wrong = wrong; is = h.has; at = same-spot _ _ h.file h.line refl } }))
+  from-rule file line (problems.BadArguments lack) h = inr (inr (record { lack = lack; is = h.has; at = same-spot _ _ h.file h.line refl }))
   from-rule file line (problems.LetsNobodyIn service of_kind) h = absurd h.has
   from-rule file line (problems.LetsAnybodyIn service) h = absurd h.has
   from-rule file line (problems.TooLarge service of_kind) h = absurd h.has

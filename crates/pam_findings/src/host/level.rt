@@ -71,6 +71,7 @@ impl Problem {
             | Problem::LetsNobodyIn { .. }
             | Problem::LetsAnybodyIn { .. }
             | Problem::JumpPastEnd
+            | Problem::BadArguments(_)
             | Problem::JumpIntoInclude
             | Problem::NoModule { is_dashed: false }
             | Problem::UnreachableName

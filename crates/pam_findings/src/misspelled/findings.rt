@@ -37,7 +37,8 @@ fn wrong_of(problem: Problem) -> Option<Wrong>
         | Problem::LeftOver
         | Problem::JumpIntoInclude
         | Problem::NoFunction
-        | Problem::CallerIsRoot => None,
+        | Problem::CallerIsRoot
+        | Problem::BadArguments(_) => None,
     }
 }
 

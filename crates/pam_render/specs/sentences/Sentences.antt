@@ -2,6 +2,8 @@
 use Rattle.std.specs.Prelude.{ℕ, Bool, ◌||◌, List, [], ◌++◌, codes, if◌then◌else◌, nat_eq, Option, None, Some}
 use Rattle.std.specs.List.{ends_with}
 use Rattle.std.specs.Str.{bytes_eq}
+use Rattle.pam_arguments.specs.declared.lacks.Lack.{Lack}
+use Rattle.pam_arguments.specs.declared.lacks.Lack.TheVariants as lacks
 use Rattle.pam_arguments.specs.declared.verdict.Reaction.{Reaction}
 use Rattle.pam_arguments.specs.declared.verdict.Reaction.TheVariants.{Fails, Ignores, Logs}
 use Rattle.pam_findings.specs.declared.host.level.Level.{Level}
@@ -132,6 +134,15 @@ abbrev pub argument_text : ArgumentProblem → Option MisspelledText → List �
 argument_text wrong None = argument_sentence
 argument_text wrong (Some misspelled) = naming_text misspelled (argument_naming wrong misspelled.word)
 
+-- S19: what the rule of a module lacks
+abbrev pub lack_sentence : Lack → List ℕ
+lack_sentence lacks.Program = codes "pam_exec.so has no program to run, so it always fails; name one after its options"
+lack_sentence lacks.List = codes "pam_listfile.so lacks one of item=, sense= and file=, so it always answers as onerr= says; write all three"
+lack_sentence lacks.Database = codes "pam_userdb.so has no database, so it always fails; name one by db="
+lack_sentence lacks.UserType = codes "pam_usertype.so has no type of user to test for, so it always fails; write issystem or isregular"
+lack_sentence lacks.Condition =
+    codes "pam_succeed_if.so has a condition that it cannot judge, so it always fails; write a field, a test and a value for each"
+
 -- S8: a line of the accept file that accepts nothing
 abbrev pub unused_sentence : List ℕ
 unused_sentence = codes "no finding has this number and place; remove the line, or mend it"
@@ -157,6 +168,7 @@ problem_sentence problems.JumpIntoInclude = inside_sentence
 problem_sentence problems.NoFunction = no_function_sentence
 problem_sentence problems.CallerIsRoot = caller_sentence
 problem_sentence (problems.Argument argument wrong) = argument_sentence
+problem_sentence (problems.BadArguments lack) = lack_sentence lack
 
 -- WHAT IS SAID of a problem at a line, with the word that is wrong if it is known
 abbrev pub said : ℕ → Problem → Option MisspelledText → List ℕ
