@@ -1,4 +1,4 @@
-"""The arguments of modules, read plainly from `docs/SPECIFICATION.md`: S15 to S18.
+"""The arguments of modules, read plainly from `docs/SPECIFICATION.md`: S15 to S19, and S23.
 
 What modules know is the table of the program, `crates/pam_arguments/src/table.rt`, which is data and no code."""
 import re
@@ -15,8 +15,18 @@ PATTERNS = {b"number": rb"[-+]?[0-9]+", b"number-or-never": rb"[-+]?[0-9]+|never
 SAID = {"S15": (b" knows no argument ", b"", b"mend it, or remove it"),
         "S16": (b" takes ", b" for an argument that it begins with", b"write that argument"),
         "S17": (b" does not read ", b" in this kind", b"remove it"),
-        "S18": (b" cannot use the value of ", b"", b"write one that its manual page names")}
-NAMES = {"S15": "UnknownArgument", "S16": "LongerWord", "S17": "ArgumentOfOtherKind", "S18": "BadValue"}
+        "S18": (b" cannot use the value of ", b"", b"write one that its manual page names"),
+        "S23": (b" stores passwords by a weak hash with ", b"", b"write yescrypt in its place")}
+NAMES = {"S15": "UnknownArgument", "S16": "LongerWord", "S17": "ArgumentOfOtherKind", "S18": "BadValue", "S19": "BadArguments", "S23": "WeakHash"}
+# What the arguments of a rule lack as a whole.
+LACKS = [b"pam_exec.so has no program to run, so it always fails; name one after its options",
+         b"pam_listfile.so lacks one of item=, sense= and file=, so it always answers as onerr= says; write all three",
+         b"pam_userdb.so has no database, so it always fails; name one by db=",
+         b"pam_usertype.so has no type of user to test for, so it always fails; write issystem or isregular",
+         b"pam_succeed_if.so has a condition that it cannot judge, so it always fails; write a field, a test and a value for each"]
+FLAGS = b"debug use_uid quiet quiet_fail quiet_success audit".split()
+CONDITION = (rb"(user|login|name|uid|gid|shell|home|dir|homedir|ruser|rhost|tty|service)\0"
+             rb"(<=?|>=?|l[te]|g[te]|eq|ne|!?=|[=!]~|(no)?glob|(not)?(in|ingroup|innetgr))\0[^\0]*\0")
 KINDS = [b"auth", b"account", b"password", b"session"]
 REACTIONS = [b"ignores", b"logs", b"fails"]
 
@@ -35,6 +45,8 @@ class Row:
     def __init__(self, word, kinds):
         form, _, own = word.partition(b"@")
         self.kinds = (own or kinds).split(b",")
+        form, _, weak = form.partition(b"!")
+        self.weak_in = weak.split(b",")
         marks, self.argument, value = re.fullmatch(rb"([*?~]*)([^:]*)(?::(.*))?", form).groups()
         self.flags = re.I if b"*" in marks else 0
         self.value = value and (PATTERNS.get(value) or b"|".join(map(re.escape, value.split(b"|"))))
@@ -71,6 +83,8 @@ def wrong(name, kind, word):
     longer = [row for row in rows(name) if row.longer and row.longer.fullmatch(word)]
     for row in whole:
         if kind in row.kinds:
+            if kind in row.weak_in:
+                return "S23", 0
             value = word.partition(b"=")[2] if b"=" in word else None
             is_right = row.value is None or value is None or re.fullmatch(row.value, value)
             return None if is_right else ("S18", 0)
@@ -80,6 +94,25 @@ def wrong(name, kind, word):
         return "S17", 0
     does = reaction(name, kind)
     return None if does is None else ("S15", REACTIONS.index(does))
+
+
+def lack(name, kind, words):
+    """What the arguments of a rule lack as a whole, by its position in LACKS, or `None`."""
+    if name == b"pam_exec":
+        of_type = b"type=" + (b"open_session" if kind == b"session" else kind)
+        options = rb"(?i:debug|expose_authtok|quiet|quiet_log|seteuid|stdout|(?s:log=.*))|" + of_type
+        return 0 if all(re.fullmatch(options, word) for word in words) else None
+    if name == b"pam_listfile":
+        return None if all(any(word.startswith(front) for word in words) for front in (b"item=", b"sense=", b"file=")) else 1
+    if name == b"pam_userdb" and kind == b"auth":
+        return None if any(word.lower().startswith(b"db=") for word in words) else 2
+    if name == b"pam_usertype":
+        return None if b"issystem" in words or b"isregular" in words else 3
+    if name == b"pam_succeed_if":
+        # No word has a NUL.
+        conditions = b"".join(word + b"\0" for word in words if word not in FLAGS)
+        return None if re.fullmatch(b"(?is)(%s)*" % CONDITION, conditions) else 4
+    return None
 
 
 def nearest(name, word):

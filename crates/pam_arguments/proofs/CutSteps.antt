@@ -1,10 +1,7 @@
 -- The parts of a text, one after another.
-use Rattle.std.proofs.Common.{◌≡◌, ◌∙◌, ◌+◌, ◌<◌, ◌≤◌, ◌||◌, ℕ, Bool, true, false, not, List, [], ◌∷◌, length, take, drop, cond, nat_lt, Option, Some}
-use Rattle.std.proofs.Common.{None, refl, sym, ap, arith}
-use Rattle.std.specs.List.{list_any, slice_split, onto_first, position_or_len}
-use Rattle.std.specs.Option.{option_map_or}
-use Rattle.std.proofs.lemmas.Bool.{ltb-true, ltb-false}
-use Rattle.std.proofs.lemmas.List.Splits.{slice_split_first}
+use Rattle.std.proofs.Common.{◌≡◌, ◌∙◌, ◌<◌, ◌||◌, ℕ, Bool, true, false, List, [], ◌∷◌, length, Option, Some}
+use Rattle.std.proofs.Common.{None, sym, ap, arith}
+use Rattle.std.specs.List.{list_any}
 use Rattle.pam_text.proofs.Splits.{split_found, split_none}
 use Rattle.pam_text.specs.Cut.{cut_at, is_among}
 use Rattle.pam_arguments.specs.Cuts.{parts_of}

@@ -8,8 +8,8 @@ use Rattle.pam_arguments.specs.Cuts.{after}
 use Rattle.pam_arguments.specs.Laws.{FitsNot, IsKnown, Listed, first, later}
 use Rattle.pam_arguments.specs.Rows.{Row, is_longer, is_whole}
 use Rattle.pam_arguments.specs.Values.{form_named, takes}
-use Rattle.pam_arguments.specs.Verdicts.{Meaning, Known, Free, Longer, OtherKind, BadValue, Unknown, Module, has_kind, is_read, known_value, meaning, or_else}
-use Rattle.pam_arguments.specs.Verdicts.{unknown_meaning, whole_meaning}
+use Rattle.pam_arguments.specs.Verdicts.{Meaning, Known, Free, Longer, OtherKind, BadValue, Weak, Unknown, Module, has_kind, is_read, is_weak}
+use Rattle.pam_arguments.specs.Verdicts.{known_value, meaning, or_else, unknown_meaning, whole_meaning}
 use Rattle.pam_arguments.specs.declared.verdict.Reaction.{Reaction}
 use Rattle.pam_arguments.specs.declared.verdict.Reaction.TheVariants.{Ignores}
 
@@ -52,6 +52,13 @@ value_known (Some form) None = tt
 value_known (Some form) (Some value) =
     elim (takes (form_named form) value) as (λ (t : Bool). IsKnown (if t then Known else BadValue (form_named form))) [ true ↦ tt | false ↦ tt ]
 
+whole_known : (kind : Kind) (row : Row) (word : List ℕ) → IsKnown (whole_meaning kind row word)
+whole_known kind row word =
+    elim (is_weak kind row) as (λ (t : Bool). IsKnown (if t then Weak else known_value row.value (after 61 word))) [
+      | true ↦ tt
+      | false ↦ value_known row.value (after 61 word)
+    ]
+
 module _ (known : Module) (kind : Kind) (word : List ℕ) where
   abbrev is_here : Row → Bool
   is_here row = is_whole row word && is_read known.kinds kind row
@@ -69,7 +76,7 @@ module _ (known : Module) (kind : Kind) (word : List ℕ) where
   if_no_whole o t = option_map_or (λ row. Longer row.argument) o (if_none t)
 
   abbrev of_found : Option Row → Option Row → Bool → Meaning
-  of_found whole longer t = option_map_or (λ row. whole_meaning row word) whole (if_no_whole longer t)
+  of_found whole longer t = option_map_or (λ row. whole_meaning kind row word) whole (if_no_whole longer t)
 
   pub arguments_known : (row : Row) → Listed row known.rows → is_whole row word ≡ true → is_read known.kinds kind row ≡ true →
       IsKnown (meaning known kind word)
@@ -77,7 +84,7 @@ module _ (known : Module) (kind : Kind) (word : List ℕ) where
   arguments_known row listed whole read = go (find is_here known.rows) refl
     where
       go : (o : Option Row) → find is_here known.rows ≡ o → IsKnown (of_found o (find begins_here known.rows) (list_any fits known.rows))
-      go (Some r) e = value_known r.value (after 61 word)
+      go (Some r) e = whole_known kind r word
       go None e =
           let here : is_here row ≡ true = ap (λ (t : Bool). t && is_read known.kinds kind row) whole ∙ read in
           let none : is_here row ≡ false = none_found is_here row known.rows e listed in
@@ -92,7 +99,7 @@ module _ (known : Module) (kind : Kind) (word : List ℕ) where
   unknown_fits_none row reaction h listed = go (find is_here known.rows) (find begins_here known.rows) (list_any fits known.rows) refl h
     where
       go : (o p : Option Row) (t : Bool) → list_any fits known.rows ≡ t → of_found o p t ≡ Unknown reaction → FitsNot row word
-      go (Some r) p t e g = absurd (not_known _ (Unknown reaction) (value_known r.value (after 61 word)) g)
+      go (Some r) p t e g = absurd (not_known _ (Unknown reaction) (whole_known kind r word) g)
       go None (Some r) t e g = absurd (cc)
       go None None true e g = absurd (cc)
       go None None false e g = neither (is_whole row word) (is_longer row word) (none_passes fits row known.rows e listed)
@@ -103,7 +110,7 @@ module _ (known : Module) (kind : Kind) (word : List ℕ) where
     where
       go : (o p : Option Row) → find is_here known.rows ≡ o → find begins_here known.rows ≡ p →
           of_found o p (list_any fits known.rows) ≡ OtherKind → FitsNot row word
-      go (Some r) p e f g = absurd (not_known _ OtherKind (value_known r.value (after 61 word)) g)
+      go (Some r) p e f g = absurd (not_known _ OtherKind (whole_known kind r word) g)
       go None (Some r) e f g = absurd (cc)
       go None None e f g = (
         not_read (is_whole row word) (is_read known.kinds kind row) (none_found is_here row known.rows e listed) read,
@@ -120,7 +127,7 @@ module _ (known : Module) (kind : Kind) (word : List ℕ) where
   free_takes h = go (find is_here known.rows) (find begins_here known.rows) (list_any fits known.rows) h
     where
       go : (o p : Option Row) (t : Bool) → of_found o p t ≡ Free → known.reaction ≡ None
-      go (Some r) p t g = absurd (not_known _ Free (value_known r.value (after 61 word)) g)
+      go (Some r) p t g = absurd (not_known _ Free (whole_known kind r word) g)
       go None (Some r) t g = absurd (cc)
       go None None true g = absurd (cc)
       go None None false g = unknown_free known.reaction g

@@ -1,3 +1,4 @@
+pub mod ConditionSteps
 pub mod CutSteps
 pub mod LawSteps
 pub mod TableSteps

@@ -2,7 +2,7 @@
 use Rattle.std.specs.Prelude.{◌≡◌, ⊤, ℕ, false, true, List, ◌∷◌, None}
 use Rattle.pam_conf.specs.declared.rule.Kind.{Kind}
 use Rattle.pam_arguments.specs.Rows.{Row, is_longer, is_whole}
-use Rattle.pam_arguments.specs.Verdicts.{Meaning, Known, Free, Longer, OtherKind, BadValue, Unknown, Module, is_read, meaning}
+use Rattle.pam_arguments.specs.Verdicts.{Meaning, Known, Free, Longer, OtherKind, BadValue, Weak, Unknown, Module, is_read, meaning}
 use Rattle.pam_arguments.specs.declared.verdict.Reaction.{Reaction}
 
 -- a row of a list
@@ -14,6 +14,7 @@ pub data Listed : Row → List Row → Type 0 where
 abbrev pub IsKnown : Meaning → Type 0
 IsKnown Known = ⊤
 IsKnown (BadValue form) = ⊤
+IsKnown Weak = ⊤
 IsKnown Free = ⊥
 IsKnown (Longer argument) = ⊥
 IsKnown OtherKind = ⊥

@@ -1,4 +1,6 @@
+pub mod Conditions
 pub mod Cuts
+pub mod Lacks
 pub mod Laws
 pub mod Modules
 pub mod Rows

@@ -1,4 +1,4 @@
--- The arguments that a module knows, a row each: `[*][?|~]ARGUMENT[:VALUE][@KIND,..]`.
+-- The arguments that a module knows, a row each: `[*][?|~]ARGUMENT[:VALUE][!KIND,..][@KIND,..]`.
 use Rattle.std.specs.Prelude.{ℕ, ◌-◌, ◌==◌, ◌&&◌, ◌||◌, Bool, true, List, [], ◌∷◌, Option, codes, drop, if◌then◌else◌, length, nat_eq, take}
 use Rattle.std.specs.List.{ends_with}
 use Rattle.std.specs.Str.{bytes_eq}
@@ -16,6 +16,8 @@ pub record Row : Type 0 where
   pub may_be_longer : Bool
   -- which values are right, if not all are
   pub value : Option (List ℕ)
+  -- `!`: the kinds in which the module then stores passwords by a hash that is broken
+  pub weak_in : Option (List ℕ)
   -- the kinds in which it is read, if not those of the module
   pub kinds : Option (List ℕ)
 
@@ -23,13 +25,15 @@ pub record Row : Type 0 where
 unfoldable pub row_of : List ℕ → Row
 row_of word =
     let form = before 64 word in
-    let marked = before 58 form in
+    let valued = before 33 form in
+    let marked = before 58 valued in
     record {
       argument = without_mark 126 (without_mark 63 (without_mark 42 marked));
       any_case = has_mark 42 marked;
       may_have_value = has_mark 63 (without_mark 42 marked);
       may_be_longer = has_mark 126 (without_mark 63 (without_mark 42 marked));
-      value = after 58 form;
+      value = after 58 valued;
+      weak_in = after 33 form;
       kinds = after 64 word;
     }
 

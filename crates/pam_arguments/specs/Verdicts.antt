@@ -1,5 +1,5 @@
 -- What a module makes of an argument of its rule.
-use Rattle.std.specs.Prelude.{ℕ, ◌&&◌, ◌||◌, Bool, List, Option, Some, codes, find, if◌then◌else◌}
+use Rattle.std.specs.Prelude.{ℕ, ◌&&◌, ◌||◌, Bool, false, List, Option, Some, codes, find, if◌then◌else◌}
 use Rattle.std.specs.List.{list_any}
 use Rattle.std.specs.Option.{option_map_or}
 use Rattle.std.specs.Str.{bytes_eq}
@@ -27,6 +27,7 @@ pub data Meaning : Type 0 where
   Longer : List ℕ → Meaning
   OtherKind : Meaning
   BadValue : ValueForm → Meaning
+  Weak : Meaning
   Unknown : Reaction → Meaning
 
 abbrev pub kind_name : Kind → List ℕ
@@ -51,9 +52,13 @@ abbrev pub known_value : Option (List ℕ) → Option (List ℕ) → Meaning
 known_value (Some form) (Some value) = if takes (form_named form) value then Known else BadValue (form_named form)
 known_value form value = Known
 
--- a word that is the row's argument is known, unless its value is wrong
-abbrev pub whole_meaning : Row → List ℕ → Meaning
-whole_meaning row word = known_value row.value (after 61 word)
+-- with the row's argument the module stores passwords by a hash that is broken, in this kind
+abbrev pub is_weak : Kind → Row → Bool
+is_weak kind row = option_map_or (has_kind kind) row.weak_in false
+
+-- a word that is the row's argument is known, unless it asks for a broken hash, or its value is wrong
+abbrev pub whole_meaning : Kind → Row → List ℕ → Meaning
+whole_meaning kind row word = if is_weak kind row then Weak else known_value row.value (after 61 word)
 
 -- a word that the module does not know: where it reads no arguments, it ignores each
 abbrev pub unknown_meaning : Module → Kind → Meaning
@@ -65,6 +70,6 @@ unknown_meaning known kind =
 -- the word is one of another kind, or is not known
 unfoldable pub meaning : Module → Kind → List ℕ → Meaning
 meaning known kind word =
-    option_map_or (λ row. whole_meaning row word) (find (λ row. is_whole row word && is_read known.kinds kind row) known.rows)
+    option_map_or (λ row. whole_meaning kind row word) (find (λ row. is_whole row word && is_read known.kinds kind row) known.rows)
     (option_map_or (λ row. Longer row.argument) (find (λ row. is_longer row word && is_read known.kinds kind row) known.rows)
     (if list_any (λ row. is_whole row word || is_longer row word) known.rows then OtherKind else unknown_meaning known kind))

@@ -3,7 +3,7 @@ use Rattle.std.specs.Option.{option_map}
 use Rattle.pam_arguments.specs.Modules.{rows_in}
 use Rattle.pam_arguments.specs.Rows.{Row as RowText}
 use Rattle.pam_arguments.specs.Values.{ValueForm, Number, NumberOrNever, Octal, Boolean, OneOf}
-use Rattle.pam_arguments.specs.Verdicts.{Module as ModuleText, Meaning, Known, Free, Longer, OtherKind, BadValue, Unknown}
+use Rattle.pam_arguments.specs.Verdicts.{Module as ModuleText, Meaning, Known, Free, Longer, OtherKind, BadValue, Weak, Unknown}
 use Rattle.pam_arguments.specs.declared.modules.Module.{Module}
 use Rattle.pam_arguments.specs.declared.row.Row.{Row}
 use Rattle.pam_arguments.specs.declared.values.Wanted.{Wanted}
@@ -24,6 +24,7 @@ verdict_view verdicts.Free = Free
 verdict_view (verdicts.Longer argument) = Longer argument.now
 verdict_view verdicts.OtherKind = OtherKind
 verdict_view (verdicts.BadValue form) = BadValue (form_view form)
+verdict_view verdicts.Weak = Weak
 verdict_view (verdicts.Unknown reaction) = Unknown reaction
 
 abbrev pub row_view : Row → RowText
@@ -33,6 +34,7 @@ row_view row = record {
   may_have_value = row.may_have_value;
   may_be_longer = row.may_be_longer;
   value = option_map (λ t. t.now) row.value;
+  weak_in = option_map (λ t. t.now) row.weak_in;
   kinds = option_map (λ t. t.now) row.kinds;
 }
 

@@ -2,7 +2,9 @@
 #![tactic(auto)]
 
 mod arguments;
+mod conditions;
 mod cuts;
+mod lacks;
 pub mod laws;
 mod modules;
 mod row;
@@ -11,6 +13,7 @@ mod values;
 mod verdict;
 
 pub use arguments::Arguments;
+pub use lacks::{Lack, lack_of};
 pub use modules::Module;
 pub use values::Wanted;
 pub use verdict::{Reaction, Verdict};

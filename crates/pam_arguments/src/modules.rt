@@ -5,7 +5,7 @@ ghost use Rattle.std.specs.List.{list_any};
 ghost use Rattle.std.specs.Option.{option_map, option_map_or};
 ghost use Rattle.pam_arguments.specs.Modules.{arguments_of, module_of, name_part, nearest_argument, or_empty, reaction_named};
 ghost use Rattle.pam_arguments.specs.Rows.{is_longer, is_whole};
-ghost use Rattle.pam_arguments.specs.Verdicts.{has_kind, is_read, kind_name, meaning, or_else, unknown_meaning, whole_meaning};
+ghost use Rattle.pam_arguments.specs.Verdicts.{has_kind, is_read, is_weak, kind_name, meaning, or_else, unknown_meaning, whole_meaning};
 ghost use Rattle.pam_arguments.specs.Views.{module_view, row_view, verdict_view};
 
 use crate::cuts::{Parts, cut_once, has_part, split};
@@ -70,10 +70,23 @@ fn name_part(word: &[u8]) -> &[u8]
     }
 }
 
-/// What the value of a word says that is the argument of a row.
-fn whole_verdict<'t>(row: &Row<'t>, word: &[u8]) -> Verdict<'t>
-    ensures { verdict_view result ≡ whole_meaning (row_view row.now) word.now }
+/// Whether the module stores passwords by a broken hash with the argument of a row, in this kind.
+fn is_weak(kind: Kind, row: &Row<'_>) -> bool
+    ensures { result ≡ is_weak kind (row_view row.now) }
 {
+    match row.weak_in {
+        Some(kinds) => has_kind(kinds, kind),
+        None => false,
+    }
+}
+
+/// What a word says that is the argument of a row.
+fn whole_verdict<'t>(kind: Kind, row: &Row<'t>, word: &[u8]) -> Verdict<'t>
+    ensures { verdict_view result ≡ whole_meaning kind (row_view row.now) word.now }
+{
+    if is_weak(kind, row) {
+        return Verdict::Weak;
+    }
     let (Some(text), Some(value)) = (row.value, cut_once(word, b'=').1) else {
         return Verdict::Known;
     };
@@ -190,7 +203,7 @@ impl<'t> Module<'t> {
         ensures { verdict_view result ≡ meaning (module_view self.now) kind word.now }
     {
         if let Some(row) = self.whole(kind, word) {
-            return whole_verdict(&row, word);
+            return whole_verdict(kind, &row, word);
         }
         if let Some(row) = self.longer(kind, word) {
             return Verdict::Longer(row.argument);

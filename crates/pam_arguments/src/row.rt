@@ -18,6 +18,8 @@ pub(crate) struct Row<'t> {
     may_be_longer: bool,
     /// The values that are right, if not all are.
     pub(crate) value: Option<&'t [u8]>,
+    /// The kinds in which the module then stores passwords by a hash that is broken.
+    pub(crate) weak_in: Option<&'t [u8]>,
     /// The kinds in which the module reads it, if not those of most.
     pub(crate) kinds: Option<&'t [u8]>,
 }
@@ -31,6 +33,13 @@ fn is_same(any_case: bool, word: &[u8], other: &[u8]) -> bool
     } else {
         word == other
     }
+}
+
+/// Whether a word begins so.
+pub(crate) fn begins(any_case: bool, word: &[u8], front: &[u8]) -> bool
+    ensures { result ≡ begins any_case word.now front.now }
+{
+    is_same(any_case, split(word, front.len()).0, front)
 }
 
 fn ends_in_equals(argument: &[u8]) -> bool
@@ -57,7 +66,8 @@ impl<'t> Row<'t> {
         ensures { row_view result ≡ row_of word.now }
     {
         let (form, kinds) = cut_once(word, b'@');
-        let (marked, value) = cut_once(form, b':');
+        let (valued, weak_in) = cut_once(form, b'!');
+        let (marked, value) = cut_once(valued, b':');
         let bare = without_mark(marked, b'*');
         let plain = without_mark(bare, b'?');
         Row {
@@ -66,6 +76,7 @@ impl<'t> Row<'t> {
             may_have_value: has_mark(bare, b'?'),
             may_be_longer: has_mark(plain, b'~'),
             value,
+            weak_in,
             kinds,
         }
     }

@@ -9,9 +9,10 @@ ghost use Rattle.pam_arguments.specs.declared.table.TheConstants.{TABLE};
 /// kinds in which it reads arguments, if they are others, with a word that it does not know: it `ignores` it, `logs` it or
 /// `fails`; or it is `free` to take any word.
 ///
-/// An argument is `[*][?|~]WORD[:VALUE][@KIND,..]`. A WORD that ends in `=` is followed by a value. `*`: in any case. `?`: with
-/// `=` and anything too. `~`: the module takes each word that begins so for this one. VALUE says which values are right:
-/// `number`, `number-or-never`, `octal`, `bool`, or words with `|` between them; without it each value may be.
+/// An argument is `[*][?|~]WORD[:VALUE][!KIND,..][@KIND,..]`. A WORD that ends in `=` is followed by a value. `*`: in any case.
+/// `?`: with `=` and anything too. `~`: the module takes each word that begins so for this one. VALUE says which values are right:
+/// `number`, `number-or-never`, `octal`, `bool`, or words with `|` between them; without it each value may be. `!`: in these kinds
+/// the argument makes the module store passwords by a hash that is broken.
 const TABLE: &[u8] = b"\
     pam_abl auth fails debug db_home= host_db= user_db= config= limits= host_rule= user_rule= host_whitelist= \
         user_whitelist= host_purge= user_purge= host_block_cmd= host_clear_cmd= user_block_cmd= user_clear_cmd= \
@@ -175,9 +176,9 @@ const TABLE: &[u8] = b"\
     pam_ufpidentity auth free\n\
     pam_umask session logs *debug *usergroups *nousergroups *silent *umask=:octal\n\
     pam_unix auth,account,password,session logs ~audit ~use_first_pass ~try_first_pass authtok_type= ~use_authtok \
-        ~shadow ~md5 ~nullok ~debug ~nodelay ~nis ~bigcrypt ~likeauth remember=:number@password ~noreap \
-        ~broken_shadow ~sha256 ~sha512 rounds=:number@password ~blowfish minlen=:number@password ~quiet \
-        ~no_pass_expiry ~des ~gost_yescrypt ~yescrypt ~nullresetok ~obscure ~nullok_secure\n\
+        ~shadow ~md5!password ~nullok ~debug ~nodelay ~nis ~bigcrypt!password ~likeauth remember=:number@password \
+        ~noreap ~broken_shadow ~sha256 ~sha512 rounds=:number@password ~blowfish minlen=:number@password ~quiet \
+        ~no_pass_expiry ~des!password ~gost_yescrypt ~yescrypt ~nullresetok ~obscure ~nullok_secure\n\
     pam_userdb auth,account logs debug *icase *dump *unknown_ok *key_only *use_first_pass *try_first_pass *db= \
         *crypt=\n\
     pam_usernet session logs lodown rootshared group=\n\

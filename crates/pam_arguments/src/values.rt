@@ -3,6 +3,7 @@
 ghost use Rattle.std.specs.Prelude.{◌≡◌, map};
 ghost use Rattle.std.specs.List.{list_all, list_any};
 ghost use Rattle.std.specs.Char.{is_ascii_digit};
+ghost use Rattle.std.specs.Str.{bytes_eq};
 ghost use Rattle.pam_codes.specs.Code.{same_name};
 ghost use Rattle.pam_arguments.specs.Values.{booleans, form_named, is_number, is_octal_digit, takes, unsigned};
 ghost use Rattle.pam_arguments.specs.Views.{form_view};
@@ -76,10 +77,17 @@ fn is_octal(value: &[u8]) -> bool
 }
 
 /// Whether a value is one of some words, in any case.
-fn is_any(words: &[&[u8]], value: &[u8]) -> bool
+pub(crate) fn is_any(words: &[&[u8]], value: &[u8]) -> bool
     ensures { result ≡ list_any (λ word. same_name value.now word.now) words.now }
 {
     words.iter().any(|word| value.eq_ignore_ascii_case(word))
+}
+
+/// Whether a word is one of some words.
+pub(crate) fn is_listed(words: &[&[u8]], word: &[u8]) -> bool
+    ensures { result ≡ list_any (λ listed. bytes_eq word.now listed.now) words.now }
+{
+    words.iter().any(|listed| word == *listed)
 }
 
 /// Whether a value is a boolean one.

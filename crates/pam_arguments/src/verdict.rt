@@ -26,6 +26,8 @@ pub enum Verdict<'t> {
     OtherKind,
     /// The module knows it, but its value is not one of these.
     BadValue(Wanted<'t>),
+    /// The module knows it, and stores passwords by a hash that is broken.
+    Weak,
     /// The module does not know it.
     Unknown(Reaction),
 }

@@ -83,6 +83,49 @@ bad_value =
       mending = codes "write a value as the manual page of the module names it.";
     }
 
+unfoldable pub bad_arguments : Explanation
+bad_arguments =
+    record {
+      number = codes "S19";
+      name = codes "BadArguments";
+      level = Warning;
+      meaning =
+          codes "A rule has not all the arguments that its module needs: pam_exec no program,\n"
+          ++ codes "pam_listfile no item=, sense= or file=, pam_userdb in auth no db=,\n"
+          ++ codes "pam_usertype neither issystem nor isregular, or pam_succeed_if a condition\n"
+          ++ codes "that is no field, test and value. So the module fails whoever logs in;\n"
+          ++ codes "pam_listfile does what its onerr= says, which may be to succeed.";
+      example =
+          codes "# login\n"
+          ++ codes "auth required pam_unix.so\n"
+          ++ codes "session optional pam_exec.so quiet seteuid";
+      linux_pam =
+          codes "1.5.2 and 1.7.0 leave arguments to the modules, which\n"
+          ++ codes "answer service_err. pam_exec lets the first pass of password go on.";
+      mending = codes "write what is missing, as the manual page of the module has it.";
+    }
+
+unfoldable pub weak_hash : Explanation
+weak_hash =
+    record {
+      number = codes "S23";
+      name = codes "WeakHash";
+      level = Warning;
+      meaning =
+          codes "A rule has pam_unix store passwords by md5, des or bigcrypt. These hashes are\n"
+          ++ codes "computed so fast that who can read them tries millions of passwords a second.\n"
+          ++ codes "With des, no more than eight characters of a password count.";
+      example =
+          codes "# passwd\n"
+          ++ codes "password required pam_unix.so md5";
+      linux_pam =
+          codes "1.5.2 and 1.7.0 store by the hash that the rule names, and\n"
+          ++ codes "check a password by whichever hash is stored.";
+      mending =
+          codes "write yescrypt in its place. Passwords that are stored\n"
+          ++ codes "already keep their hash until they are changed.";
+    }
+
 -- THE ROWS, in the order of their numbers
 abbrev pub of_arguments : List Explanation
-of_arguments = unknown_argument ∷ longer_word ∷ argument_of_other_kind ∷ bad_value ∷ []
+of_arguments = unknown_argument ∷ longer_word ∷ argument_of_other_kind ∷ bad_value ∷ bad_arguments ∷ weak_hash ∷ []

@@ -104,6 +104,59 @@ fn bad_value() -> Explanation
     }
 }
 
+#[tactic(auto, unfolding(crate::specs::Arguments::bad_arguments))]
+fn bad_arguments() -> Explanation
+    ensures { explanation_view result ≡ spec.bad_arguments }
+{
+    Explanation {
+        number: "S19",
+        name: "BadArguments",
+        level: Level::Warning,
+        meaning: concat!(
+            "A rule has not all the arguments that its module needs: pam_exec no program,\n",
+            "pam_listfile no item=, sense= or file=, pam_userdb in auth no db=,\n",
+            "pam_usertype neither issystem nor isregular, or pam_succeed_if a condition\n",
+            "that is no field, test and value. So the module fails whoever logs in;\n",
+            "pam_listfile does what its onerr= says, which may be to succeed."
+        ),
+        example: concat!(
+            "# login\n",
+            "auth required pam_unix.so\n",
+            "session optional pam_exec.so quiet seteuid"
+        ),
+        linux_pam: concat!(
+            "1.5.2 and 1.7.0 leave arguments to the modules, which\n",
+            "answer service_err. pam_exec lets the first pass of password go on."
+        ),
+        mending: "write what is missing, as the manual page of the module has it.",
+    }
+}
+
+#[tactic(auto, unfolding(crate::specs::Arguments::weak_hash))]
+fn weak_hash() -> Explanation
+    ensures { explanation_view result ≡ spec.weak_hash }
+{
+    Explanation {
+        number: "S23",
+        name: "WeakHash",
+        level: Level::Warning,
+        meaning: concat!(
+            "A rule has pam_unix store passwords by md5, des or bigcrypt. These hashes are\n",
+            "computed so fast that who can read them tries millions of passwords a second.\n",
+            "With des, no more than eight characters of a password count."
+        ),
+        example: concat!("# passwd\n", "password required pam_unix.so md5"),
+        linux_pam: concat!(
+            "1.5.2 and 1.7.0 store by the hash that the rule names, and\n",
+            "check a password by whichever hash is stored."
+        ),
+        mending: concat!(
+            "write yescrypt in its place. Passwords that are stored\n",
+            "already keep their hash until they are changed."
+        ),
+    }
+}
+
 /// Returns the explanation at this index, or `None` past the last one. They are in the order of their numbers.
 pub(crate) fn of_arguments(row: usize) -> Option<Explanation>
     ensures { option_map explanation_view result ≡ slice_get spec.of_arguments row }
@@ -113,6 +166,8 @@ pub(crate) fn of_arguments(row: usize) -> Option<Explanation>
         1 => longer_word(),
         2 => argument_of_other_kind(),
         3 => bad_value(),
+        4 => bad_arguments(),
+        5 => weak_hash(),
         _ => return None,
     })
 }

@@ -20,6 +20,7 @@ argument_name (arguments.Unknown reaction) = codes "S15 UnknownArgument"
 argument_name arguments.Longer = codes "S16 LongerWord"
 argument_name arguments.OtherKind = codes "S17 ArgumentOfOtherKind"
 argument_name arguments.BadValue = codes "S18 BadValue"
+argument_name arguments.Weak = codes "S23 WeakHash"
 
 -- the number and the name
 unfoldable pub problem_name : Problem → List ℕ
@@ -42,6 +43,7 @@ problem_name problems.JumpIntoInclude = codes "S12 JumpIntoInclude"
 problem_name problems.NoFunction = codes "S13 NoFunction"
 problem_name problems.CallerIsRoot = codes "S14 CallerIsRoot"
 problem_name (problems.Argument argument wrong) = argument_name wrong
+problem_name (problems.BadArguments lack) = codes "S19 BadArguments"
 problem_name problems.UnknownModule = codes "S25 UnknownModule"
 problem_name problems.SuccessNeverCounts = codes "S26 SuccessNeverCounts"
 

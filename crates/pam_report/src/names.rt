@@ -27,6 +27,7 @@ fn argument_name(wrong: ArgumentProblem) -> &'static str
         ArgumentProblem::Longer => "S16 LongerWord",
         ArgumentProblem::OtherKind => "S17 ArgumentOfOtherKind",
         ArgumentProblem::BadValue => "S18 BadValue",
+        ArgumentProblem::Weak => "S23 WeakHash",
     }
 }
 
@@ -54,6 +55,7 @@ pub fn problem_name(problem: Problem) -> &'static str
         Problem::NoFunction => "S13 NoFunction",
         Problem::CallerIsRoot => "S14 CallerIsRoot",
         Problem::Argument { wrong, .. } => argument_name(wrong),
+        Problem::BadArguments(_) => "S19 BadArguments",
         Problem::UnknownModule => "S25 UnknownModule",
         Problem::SuccessNeverCounts => "S26 SuccessNeverCounts",
     }

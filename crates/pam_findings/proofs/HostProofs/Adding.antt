@@ -92,6 +92,7 @@ walk-to faults file line problems.EmptySeparator h = absurd h
 walk-to faults file line problems.UnknownModule h = absurd h
 walk-to faults file line problems.SuccessNeverCounts h = absurd h
 walk-to faults file line (problems.Argument argument wrong) h = absurd h
+walk-to faults file line (problems.BadArguments lack) h = absurd h
 
 pub adds-walk : (faults : List ConfError) (old new : List Spot) → new ≡ old ++ map walk_spot faults → Adds (λ spot. InWalk faults spot spot.problem) old new
 adds-walk faults old new is =

@@ -145,6 +145,7 @@ module _ (folder : Folder) where
   from-folder file line problems.NoFunction first h = absurd (false≢true h)
   from-folder file line problems.CallerIsRoot first h = absurd (false≢true h)
   from-folder file line (problems.Argument argument wrong) first h = absurd (false≢true h)
+  from-folder file line (problems.BadArguments lack) first h = absurd (false≢true h)
   from-folder file line problems.EmptySeparator first h = absurd (false≢true h)
   from-folder file line problems.UnknownModule first h = absurd (false≢true h)
   from-folder file line problems.SuccessNeverCounts first h = absurd (false≢true h)

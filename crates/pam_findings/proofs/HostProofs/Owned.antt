@@ -115,6 +115,7 @@ module _ (folder : Folder) (start file : ℕ) (bytes : List ℕ) where
   to_spot line problems.NoFunction h = absurd h
   to_spot line problems.CallerIsRoot h = absurd h
   to_spot line (problems.Argument argument wrong) h = absurd h
+  to_spot line (problems.BadArguments lack) h = absurd h
   to_spot line problems.EmptySeparator h = absurd h
   to_spot line problems.UnknownModule h = absurd h
   to_spot line problems.SuccessNeverCounts h = absurd h

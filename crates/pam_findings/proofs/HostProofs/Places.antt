@@ -11,6 +11,8 @@ use Rattle.std.proofs.lemmas.Bool.{cases_Bool, false≢true}
 use Rattle.std.proofs.lemmas.Cmp.{nat_cmp_total, on_total, then_total, tied_itself}
 use Rattle.std.proofs.lemmas.Map.Lookups.{CmpEqualImpliesEq, exact_pairs, exact_unsigned}
 use Rattle.std.proofs.lemmas.Map.Views.{tells_apart}
+use Rattle.pam_arguments.specs.declared.lacks.Lack.{Lack}
+use Rattle.pam_arguments.specs.declared.lacks.Lack.TheVariants as lacks
 use Rattle.pam_arguments.specs.declared.verdict.Reaction.TheVariants.{Fails, Ignores, Logs}
 use Rattle.pam_codes.specs.declared.error.ControlError.TheVariants.{BadControl, BadValue, BadAction, ZeroJump, OpenBracket}
 use Rattle.pam_conf.specs.declared.error.FaultKind.{FaultKind}
@@ -21,7 +23,7 @@ use Rattle.pam_released.specs.declared.difference.Difference.{Difference}
 use Rattle.pam_released.specs.declared.difference.Difference.TheVariants.{CarriageReturn, ContinuedOverBlank, BackslashBlank, BackslashComment}
 use Rattle.pam_released.specs.declared.difference.Difference.TheVariants.{EndsInContinuation, CapitalInBrackets, LongLine, EmptyModuleName, DroppedBlank}
 use Rattle.pam_released.specs.Findings.{number_of}
-use Rattle.pam_findings.specs.host.Problems.{compare_places, kind_of, number_of_kind, place_of, rank_of, rank_of_argument, rank_of_fault}
+use Rattle.pam_findings.specs.host.Problems.{compare_places, kind_of, number_of_kind, number_of_lack, place_of, rank_of, rank_of_argument, rank_of_fault}
 use Rattle.pam_findings.specs.host.Problems.{reaction_of, service_of}
 use Rattle.pam_findings.specs.host.inner.Table.{Puts, Removes, Table, finding_at}
 use Rattle.pam_findings.specs.declared.host.problem.ArgumentProblem.{ArgumentProblem}
@@ -66,6 +68,9 @@ wrong_numbered n reaction =
     slice_index_or (arguments.Unknown (slice_index_or (Ignores ∷ Logs ∷ Fails ∷ []) reaction Ignores) ∷ arguments.Longer ∷ arguments.OtherKind ∷ []) n
     arguments.BadValue
 
+abbrev lack_numbered : ℕ → Lack
+lack_numbered n = slice_index_or (lacks.Program ∷ lacks.List ∷ lacks.Database ∷ lacks.UserType ∷ []) n lacks.Condition
+
 abbrev other_numbered : ℕ → ℕ → ℕ → Problem
 other_numbered n service kind =
     if nat_lt n 1 then problems.IncludedFromVendor (nat_lt 0 kind)
@@ -83,9 +88,11 @@ other_numbered n service kind =
     else if nat_lt n 23 then problems.JumpIntoInclude
     else if nat_lt n 24 then problems.NoFunction
     else if nat_lt n 25 then problems.CallerIsRoot
-    else if nat_lt 35 n then problems.SuccessNeverCounts
-    else if nat_lt 34 n then problems.UnknownModule
-    else problems.Argument service (wrong_numbered (n - 25) kind)
+    else if nat_lt n 29 then problems.Argument service (wrong_numbered (n - 25) kind)
+    else if nat_lt n 30 then problems.BadArguments (lack_numbered kind)
+    else if nat_lt n 34 then problems.Argument service arguments.Weak
+    else if nat_lt n 36 then problems.UnknownModule
+    else problems.SuccessNeverCounts
 
 -- the problem with this rank, service and kind
 problem_of : ℕ → ℕ → ℕ → Problem
@@ -189,6 +196,15 @@ of_argument argument (arguments.Unknown Fails) = refl
 of_argument argument arguments.Longer = refl
 of_argument argument arguments.OtherKind = refl
 of_argument argument arguments.BadValue = refl
+of_argument argument arguments.Weak = refl
+
+of_lack : (lack : Lack) → problem_of 79 0 (number_of_lack lack) ≡ problems.BadArguments lack
+unfolding problem_of
+of_lack lacks.Program = refl
+of_lack lacks.List = refl
+of_lack lacks.Database = refl
+of_lack lacks.UserType = refl
+of_lack lacks.Condition = refl
 
 of_problem : (problem : Problem) → problem_of (rank_of problem) (service_of problem) (kind_of problem) ≡ problem
 unfolding problem_of
@@ -213,6 +229,7 @@ of_problem problems.EmptySeparator = refl
 of_problem problems.UnknownModule = refl
 of_problem problems.SuccessNeverCounts = refl
 of_problem (problems.Argument argument wrong) = of_argument argument wrong
+of_problem (problems.BadArguments lack) = of_lack lack
 
 -- TWO PROBLEMS HAVE TWO PLACES
 pub spot-from_place : (one other : Spot) → place_of one ≡ place_of other → one ≡ other

@@ -76,6 +76,7 @@ not-in-stack modules service name kind faults items home verdict spot folder sta
 not-in-stack modules service name kind faults items home verdict spot folder start bytes problems.UnknownModule h k = h
 not-in-stack modules service name kind faults items home verdict spot folder start bytes problems.SuccessNeverCounts h k = h
 not-in-stack modules service name kind faults items home verdict spot folder start bytes (problems.Argument argument wrong) h k = h
+not-in-stack modules service name kind faults items home verdict spot folder start bytes (problems.BadArguments lack) h k = h
 
 -- the bytes of a file that has a problem
 has-bytes : (P : List ℕ → Type 0) (o : Option (List ℕ)) → MatchOption o ⊥ P → (bytes : List ℕ) × P bytes

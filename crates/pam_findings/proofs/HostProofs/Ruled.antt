@@ -43,7 +43,8 @@ module _ (modules : Modules) (name : List ℕ) (kind : Kind) (rule : ModuleText)
   to-rule spot (inl (inl (inl (inl (inr h))))) = subst (OfRule modules name kind rule) (sym h.1) (record { file = refl; line = refl; has = h.0 })
   to-rule spot (inl (inl (inl (inr h)))) = subst (OfRule modules name kind rule) (sym h.1) (record { file = refl; line = refl; has = h.0 })
   to-rule spot (inl (inl (inr h))) = subst (OfRule modules name kind rule) (sym h.1) (record { file = refl; line = refl; has = h.0 })
-  to-rule spot (inl (inr h)) = subst (OfRule modules name kind rule) (sym h.of.at) (record { file = refl; line = refl; has = h.of.is })
+  to-rule spot (inl (inr (inl h))) = subst (OfRule modules name kind rule) (sym h.of.at) (record { file = refl; line = refl; has = h.of.is })
+  to-rule spot (inl (inr (inr h))) = subst (OfRule modules name kind rule) (sym h.at) (record { file = refl; line = refl; has = h.is })
   to-rule spot (inr h) = subst (OfRule modules name kind rule) (sym h.1) (record { file = refl; line = refl; has = h.0 })
 
   from-rule : (file : Option ℕ) (line : ℕ) (problem : Problem) →
@@ -56,7 +57,9 @@ module _ (modules : Modules) (name : List ℕ) (kind : Kind) (rule : ModuleText)
   from-rule file line problems.CallerIsRoot h = inl (inl (inl (inr (h.has, same-spot _ _ h.file h.line refl))))
   from-rule file line problems.EmptySeparator h = inl (inl (inr (h.has, same-spot _ _ h.file h.line refl)))
   from-rule file line (problems.Argument argument wrong) h =
-      inl (inr (record { position = argument; of = record { wrong = wrong; is = h.has; at = same-spot _ _ h.file h.line refl } }))
+      inl (inr (inl (record { position = argument; of = record { wrong = wrong; is = h.has; at = same-spot _ _ h.file h.line refl } })))
+  from-rule file line (problems.BadArguments lack) h =
+      inl (inr (inr (record { lack = lack; is = h.has; at = same-spot _ _ h.file h.line refl })))
   from-rule file line problems.UnknownModule h = inr (h.has, same-spot _ _ h.file h.line refl)
   from-rule file line (problems.LetsNobodyIn service of_kind) h = absurd h.has
   from-rule file line (problems.LetsAnybodyIn service) h = absurd h.has

@@ -51,6 +51,7 @@ none-by-refused service kind home spot problems.JumpIntoInclude h = h
 none-by-refused service kind home spot problems.NoFunction h = h
 none-by-refused service kind home spot problems.CallerIsRoot h = h
 none-by-refused service kind home spot (problems.Argument argument wrong) h = h
+none-by-refused service kind home spot (problems.BadArguments lack) h = h
 none-by-refused service kind home spot problems.EmptySeparator h = h
 none-by-refused service kind home spot problems.UnknownModule h = h
 none-by-refused service kind home spot problems.SuccessNeverCounts h = h.1

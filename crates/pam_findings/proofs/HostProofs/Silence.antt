@@ -206,6 +206,15 @@ module _ (host : Host) (named : List (List ℕ)) (found : Table) (ways : List (O
           (number, rule, record { is_there = there; file = refl; line = refl }, wrong_is) in
           let In : Option Items → Type 0 = λ o. InItems host.modules name kind o spot spot.problem in
           met-note spot service kind (within, inr (inl (inr (inl (subst In (sym given) has)))), λ e. absurd cc);
+      whole = λ number rule lack there lack_is.
+          let spot : Spot = record { file = Some rule.file; line = rule.line; problem = problems.BadArguments lack } in
+          let name = service_at host service in
+          let given : survey.items ≡ Some j.items = ((stack_is_sound host.folder name kind j.items).0 h.stack).0 in
+          let has : InItems host.modules name kind (Some j.items) spot spot.problem =
+          (number, rule, record { is_there = there; file = refl; line = refl }, lack_is) in
+          let In : Option Items → Type 0 = λ o. InItems host.modules name kind o spot spot.problem in
+          let note : Warning ≡ Note = met-note spot service kind (within, inr (inl (inr (inl (subst In (sym given) has)))), λ e. absurd cc) in
+          absurd cc;
     }
       where
         somebody-in : LetsIn (may_answer j.free) j.items → j.nobody ≡ false

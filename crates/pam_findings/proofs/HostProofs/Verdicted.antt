@@ -104,6 +104,7 @@ module _ (at : Stacked) (j : Judgement) (nobody anybody : Bool) (says_nobody : (
   from-verdict file line problems.NoFunction h = absurd h
   from-verdict file line problems.CallerIsRoot h = absurd h
   from-verdict file line (problems.Argument argument wrong) h = absurd h
+  from-verdict file line (problems.BadArguments lack) h = absurd h
   from-verdict file line problems.EmptySeparator h = absurd h
   from-verdict file line problems.UnknownModule h = absurd h
 

@@ -4,12 +4,13 @@ use Rattle.std.proofs.Common.{ap, arith, inl, inr, refl, subst, sym}
 use Rattle.std.proofs.lemmas.Bool.{cases_lt}
 use Rattle.std.specs.Option.{option_and_then}
 use Rattle.pam_arguments.specs.Verdicts.{Module, meaning}
+use Rattle.pam_arguments.specs.declared.lacks.Lack.{Lack}
 use Rattle.pam_conf.specs.Stack.{ModuleText}
 use Rattle.pam_conf.specs.declared.rule.Kind.{Kind}
 use Rattle.pam_findings.specs.host.Arguments.{wrong_at, wrong_by}
 use Rattle.pam_findings.specs.host.inner.Looked.{spot_at}
 use Rattle.pam_findings.specs.host.inner.Table.{Adds}
-use Rattle.pam_findings.specs.host.inner.WrongArguments.{OfKnown, OfNumbered, OfWrong}
+use Rattle.pam_findings.specs.host.inner.WrongArguments.{OfKnown, OfLack, OfNumbered, OfWrong}
 use Rattle.pam_findings.specs.declared.host.problem.ArgumentProblem.{ArgumentProblem}
 use Rattle.pam_findings.specs.declared.host.problem.Problem.TheVariants as problems
 use Rattle.pam_findings.specs.declared.host.problem.Spot.{Spot}
@@ -34,6 +35,25 @@ pub adds-right : (rule : ModuleText) (position : ℕ) (found : Option ArgumentPr
 adds-right rule position found spots none =
     adds-none (OfWrong rule position found) spots
     (λ spot w. let no : None ≡ Some w.wrong = sym none ∙ w.is in absurd cc)
+
+pub adds-lack : (rule : ModuleText) (found : Option Lack) (lack : Lack) (old new : List Spot) →
+    found ≡ Some lack → new ≡ old ++ spot_at rule (problems.BadArguments lack) ∷ [] → Adds (OfLack found rule) old new
+adds-lack rule found lack old new is added =
+    let one : Spot = spot_at rule (problems.BadArguments lack) in
+    adds-iff (λ spot. spot ≡ one) (OfLack found rule) old new
+    (λ spot. (
+      λ e. record { lack = lack; is = is; at = e },
+      λ w.
+          let both : Some w.lack ≡ Some lack = sym w.is ∙ is in
+          let same : w.lack ≡ lack = cc in
+          w.at ∙ ap (λ (x : Lack). spot_at rule (problems.BadArguments x)) same,
+    ))
+    (adds-one old new one added)
+
+pub adds-whole : (rule : ModuleText) (found : Option Lack) (spots : List Spot) → found ≡ None → Adds (OfLack found rule) spots spots
+adds-whole rule found spots none =
+    adds-none (OfLack found rule) spots
+    (λ spot w. let no : None ≡ Some w.lack = sym none ∙ w.is in absurd cc)
 
 -- the word in front of those that are left is that at their position
 pub word-there : (words : List (List ℕ)) (n : ℕ) (word : List ℕ) (rest : List (List ℕ)) → drop n words ≡ word ∷ rest →

@@ -1,6 +1,7 @@
 -- What the definitions imply.
 use Rattle.std.specs.Prelude.{◌≡◌, ℕ, ◌<◌, All, List, length, map, slice_index_or, Option, Some, None, Ok}
 use Rattle.std.specs.BTreeMap.{BTreeMap}
+use Rattle.pam_arguments.specs.declared.lacks.Lack.{Lack}
 use Rattle.pam_findings.specs.stack.Counting.{Counts, Succeeds}
 use Rattle.pam_findings.specs.stack.Soundness.{IsFirstWayIn, LetsIn}
 use Rattle.pam_conf.specs.Resolution.{resolved}
@@ -15,7 +16,7 @@ use Rattle.pam_paths.specs.Listing.{Allowance, IsAllowed}
 use Rattle.pam_paths.specs.Paths.{PathValue}
 use Rattle.pam_paths.specs.declared.knowledge.Known.{Known}
 use Rattle.pam_findings.specs.host.Host.{Host, service_at}
-use Rattle.pam_findings.specs.host.Arguments.{wrong_argument}
+use Rattle.pam_findings.specs.host.Arguments.{lack_in, wrong_argument}
 use Rattle.pam_findings.specs.host.Levels.{level_of, level_of_argument}
 use Rattle.pam_findings.specs.host.Report.{IsReportOn}
 use Rattle.pam_findings.specs.host.Verdicts.{HasOther, IsFailing, IsFree, SaysWhoLogsIn, answers_on}
@@ -32,7 +33,8 @@ IsSilent found = All (λ entry. level_of entry.1.problem ≡ Note) found.entries
 
 -- A SOUND STACK of a service for a kind: it is accepted; some answers let somebody in, unless its modules only deny and warn; for
 -- auth, none let in anybody whose checks all fail, and if somebody is let in, each module that says who logs in and may succeed does so
--- in some run that lets somebody in; and no module has an argument that it does not take, but for what is a note
+-- in some run that lets somebody in; no module has an argument that it does not take, but for what is a note; and the arguments of none
+-- lack anything
 pub record IsSoundStack (host : Host) (service : ℕ) (kind : Kind) : Type 0 where
   pub items : Items
   pub stack : resolved host.folder (service_at host service) kind ≡ Ok items
@@ -46,6 +48,7 @@ pub record IsSoundStack (host : Host) (service : ℕ) (kind : Kind) : Type 0 whe
       Counts (may_answer free) items number
   pub arguments : (number : ℕ) (rule : ModuleText) (position : ℕ) (wrong : ArgumentProblem) → module_at number items ≡ Some rule →
       wrong_argument kind rule position ≡ Some wrong → level_of_argument wrong ≡ Note
+  pub whole : (number : ℕ) (rule : ModuleText) (lack : Lack) → module_at number items ≡ Some rule → lack_in kind rule ≡ Some lack → ⊥
 
 -- each stack of a host without such a finding is sound
 abbrev pub SilentHostIsSound : Type 0

@@ -3,6 +3,8 @@ use Rattle.std.specs.Prelude.{ℕ, ◌+◌, if◌then◌else◌}
 use Rattle.std.specs.Option.{option_cmp}
 use Rattle.std.specs.Ordering.{nat_cmp, ordering_then}
 use Rattle.std.specs.declared.cmp.Ordering.{Ordering}
+use Rattle.pam_arguments.specs.declared.lacks.Lack.{Lack}
+use Rattle.pam_arguments.specs.declared.lacks.Lack.TheVariants as lacks
 use Rattle.pam_arguments.specs.declared.verdict.Reaction.{Reaction}
 use Rattle.pam_arguments.specs.declared.verdict.Reaction.TheVariants.{Fails, Ignores, Logs}
 use Rattle.pam_codes.specs.declared.error.ControlError.{ControlError}
@@ -48,6 +50,7 @@ rank_of_argument (arguments.Unknown reaction) = 75
 rank_of_argument arguments.Longer = 76
 rank_of_argument arguments.OtherKind = 77
 rank_of_argument arguments.BadValue = 78
+rank_of_argument arguments.Weak = 83
 
 -- E1 to E18 of lines come first, then those of walks, then L1 to L10, A5, and S1 to S26
 abbrev pub rank_of : Problem → ℕ
@@ -70,6 +73,7 @@ rank_of problems.JumpIntoInclude = 72
 rank_of problems.NoFunction = 73
 rank_of problems.CallerIsRoot = 74
 rank_of (problems.Argument argument wrong) = rank_of_argument wrong
+rank_of (problems.BadArguments lack) = 79
 rank_of problems.UnknownModule = 85
 rank_of problems.SuccessNeverCounts = 86
 
@@ -89,6 +93,13 @@ abbrev pub reaction_of : ArgumentProblem → ℕ
 reaction_of (arguments.Unknown reaction) = number_of_reaction reaction
 reaction_of wrong = 0
 
+abbrev pub number_of_lack : Lack → ℕ
+number_of_lack lacks.Program = 0
+number_of_lack lacks.List = 1
+number_of_lack lacks.Database = 2
+number_of_lack lacks.UserType = 3
+number_of_lack lacks.Condition = 4
+
 -- the service of a problem that names one, and the position of an argument
 abbrev pub service_of : Problem → ℕ
 service_of (problems.LetsNobodyIn service kind) = service
@@ -99,7 +110,7 @@ service_of (problems.Argument argument wrong) = argument
 service_of problem = 0
 
 -- the number of its kind; L10 of an `@include` has another one than that of a rule with a kind, S5 of a dashed rule than that of a
--- rule without a dash, and S15 has one for what the module does
+-- rule without a dash, S15 has one for what the module does, and S19 one for what is lacking
 abbrev pub kind_of : Problem → ℕ
 kind_of (problems.LetsNobodyIn service kind) = number_of_kind kind
 kind_of (problems.TooLarge service kind) = number_of_kind kind
@@ -107,6 +118,7 @@ kind_of (problems.OtherAnswers service kind) = number_of_kind kind
 kind_of (problems.IncludedFromVendor is_at_include) = if is_at_include then 1 else 0
 kind_of (problems.NoModule is_dashed) = if is_dashed then 1 else 0
 kind_of (problems.Argument argument wrong) = reaction_of wrong
+kind_of (problems.BadArguments lack) = number_of_lack lack
 kind_of problem = 0
 
 -- THE PLACE of a problem at a line of a file

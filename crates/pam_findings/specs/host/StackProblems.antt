@@ -11,7 +11,7 @@ use Rattle.pam_conf.specs.declared.rule.Kind.TheVariants.{Auth}
 use Rattle.pam_text.specs.Members.{Member}
 use Rattle.pam_paths.specs.Known.{may_answer}
 use Rattle.pam_paths.specs.Paths.{PathValue}
-use Rattle.pam_findings.specs.host.Arguments.{wrong_argument}
+use Rattle.pam_findings.specs.host.Arguments.{lack_in, wrong_argument}
 use Rattle.pam_findings.specs.host.Callers.{caller_is_root}
 use Rattle.pam_findings.specs.host.Modules.{Modules}
 use Rattle.pam_findings.specs.host.Separators.{lacks_separator}
@@ -41,7 +41,7 @@ pub record IsAt (items : Items) (number : ℕ) (spot : Spot) (rule : ModuleText)
 abbrev pub HasModule : Items → Spot → (ℕ → ModuleText → Type 0) → Type 0
 HasModule items spot Passes = (number : ℕ) × (rule : ModuleText) × IsAt items number spot rule × Passes number rule
 
--- A5, S5, S13 to S18, S25, in a stack of a service for a kind; and S3, if no stack may ask it
+-- A5, S5, S13 to S19, S23, S25, in a stack of a service for a kind; and S3, if no stack may ask it
 abbrev pub ModuleHas : Modules → List ℕ → Kind → ModuleText → Problem → Type 0
 ModuleHas modules name kind rule problems.NeverAsked = is_other rule ≡ true
 ModuleHas modules name kind rule problems.EmptySeparator = lacks_separator rule ≡ true
@@ -50,6 +50,7 @@ ModuleHas modules name kind rule problems.NoFunction = has_no_function modules.f
 ModuleHas modules name kind rule problems.CallerIsRoot = caller_is_root kind name rule ≡ true
 ModuleHas modules name kind rule problems.UnknownModule = IsUnknown modules kind rule
 ModuleHas modules name kind rule (problems.Argument argument wrong) = wrong_argument kind rule argument ≡ Some wrong
+ModuleHas modules name kind rule (problems.BadArguments lack) = lack_in kind rule ≡ Some lack
 ModuleHas modules name kind rule problem = ⊥
 
 -- as far as the rules without a fault give a stack

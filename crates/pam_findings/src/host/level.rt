@@ -39,8 +39,10 @@ fn level_of_argument(wrong: ArgumentProblem) -> Level
 {
     match wrong {
         ArgumentProblem::Unknown(Reaction::Ignores) | ArgumentProblem::OtherKind => Level::Note,
-        ArgumentProblem::Unknown(_) | ArgumentProblem::Longer | ArgumentProblem::BadValue =>
-            Level::Warning,
+        ArgumentProblem::Unknown(_)
+        | ArgumentProblem::Longer
+        | ArgumentProblem::BadValue
+        | ArgumentProblem::Weak => Level::Warning,
     }
 }
 
@@ -70,6 +72,7 @@ impl Problem {
             | Problem::LetsNobodyIn { .. }
             | Problem::LetsAnybodyIn { .. }
             | Problem::JumpPastEnd
+            | Problem::BadArguments(_)
             | Problem::JumpIntoInclude
             | Problem::SuccessNeverCounts
             | Problem::NoModule { is_dashed: false }

@@ -66,7 +66,7 @@ fn push_if(
     Ok(())
 }
 
-/// Appends the problems that a module of a stack has by itself: A5, S5, S13 to S18, S25, and S3 if no stack may ask it.
+/// Appends the problems that a module of a stack has by itself: A5, S5, S13 to S19, S23, S25, and S3 if no stack may ask it.
 fn push_of_rule(
     spots: &mut Vec<Spot>,
     modules: &Modules<'_, '_>,

@@ -1,10 +1,10 @@
 //! What can be wrong with a host, and where.
 
 ghost use Rattle.std.specs.Prelude.{◌≡◌, ◌≤◌};
-ghost use Rattle.pam_findings.specs.host.Problems.{kind_of, number_of_kind, number_of_reaction, place_of, rank_of, rank_of_argument};
+ghost use Rattle.pam_findings.specs.host.Problems.{kind_of, number_of_kind, number_of_lack, number_of_reaction, place_of, rank_of, rank_of_argument};
 ghost use Rattle.pam_findings.specs.host.Problems.{rank_of_control, rank_of_fault, reaction_of, service_of};
 
-use pam_arguments::Reaction;
+use pam_arguments::{Lack, Reaction};
 use pam_codes::ControlError;
 use pam_conf::{FaultKind, Kind};
 use pam_released::Difference;
@@ -20,6 +20,8 @@ pub enum ArgumentProblem {
     OtherKind,
     /// S18: the module does not take its value.
     BadValue,
+    /// S23: with it the module stores passwords by a hash that is broken.
+    Weak,
 }
 
 /// What is wrong.
@@ -83,12 +85,14 @@ pub enum Problem {
     NoFunction,
     /// S14: a module of an `auth` stack looks at the user of the calling process, which is always root in this service.
     CallerIsRoot,
-    /// S15 to S18: an argument is not one that the module takes.
+    /// S15 to S18, S23: an argument is not one that the module takes, or not one to be written.
     Argument {
         /// The position of the argument in the rule, from 0.
         argument: usize,
         wrong: ArgumentProblem,
     },
+    /// S19: the arguments lack something as a whole, so the module cannot do what it is for.
+    BadArguments(Lack),
     /// S25: nothing is known of a module of an `auth` stack, so it is taken for one that checks who logs in.
     UnknownModule,
     /// S26: the success of a module that says who logs in never makes an `auth` stack succeed, though others let somebody in.
@@ -117,7 +121,7 @@ pub struct Place {
     /// The service of a problem that names one, and the position of an argument; else 0.
     pub service: usize,
     /// The number of the kind of a problem that names one; 1 for L10 of an `@include` and for S5 of a dashed rule; for S15 the number
-    /// of what the module does; else 0.
+    /// of what the module does, and for S19 of what is lacking; else 0.
     pub kind: u8,
 }
 
@@ -178,13 +182,28 @@ fn number_of_reaction(reaction: Reaction) -> u8
     }
 }
 
+fn number_of_lack(lack: Lack) -> u8
+    ensures { result ≡ number_of_lack lack }
+{
+    match lack {
+        Lack::Program => 0,
+        Lack::List => 1,
+        Lack::Database => 2,
+        Lack::UserType => 3,
+        Lack::Condition => 4,
+    }
+}
+
 /// What the module does, by its number, where it does not know an argument; else 0.
 fn reaction_of(wrong: ArgumentProblem) -> u8
     ensures { result ≡ reaction_of wrong }
 {
     match wrong {
         ArgumentProblem::Unknown(reaction) => number_of_reaction(reaction),
-        ArgumentProblem::Longer | ArgumentProblem::OtherKind | ArgumentProblem::BadValue => 0,
+        ArgumentProblem::Longer
+        | ArgumentProblem::OtherKind
+        | ArgumentProblem::BadValue
+        | ArgumentProblem::Weak => 0,
     }
 }
 
@@ -196,6 +215,7 @@ fn rank_of_argument(wrong: ArgumentProblem) -> u8
         ArgumentProblem::Longer => 76,
         ArgumentProblem::OtherKind => 77,
         ArgumentProblem::BadValue => 78,
+        ArgumentProblem::Weak => 83,
     }
 }
 
@@ -224,6 +244,7 @@ impl Problem {
             Problem::NoFunction => 73,
             Problem::CallerIsRoot => 74,
             Problem::Argument { wrong, .. } => rank_of_argument(wrong),
+            Problem::BadArguments(_) => 79,
             Problem::UnknownModule => 85,
             Problem::SuccessNeverCounts => 86,
         }
@@ -242,6 +263,7 @@ impl Problem {
             Problem::IncludedFromVendor { is_at_include } => (0, u8::from(is_at_include)),
             Problem::NoModule { is_dashed } => (0, u8::from(is_dashed)),
             Problem::Argument { argument, wrong } => (argument, reaction_of(wrong)),
+            Problem::BadArguments(lack) => (0, number_of_lack(lack)),
             Problem::Fault(_)
             | Problem::Walk(_)
             | Problem::Released(_)

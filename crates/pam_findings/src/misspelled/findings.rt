@@ -38,6 +38,7 @@ fn wrong_of(problem: Problem) -> Option<Wrong>
         | Problem::JumpIntoInclude
         | Problem::NoFunction
         | Problem::CallerIsRoot
+        | Problem::BadArguments(_)
         | Problem::UnknownModule
         | Problem::SuccessNeverCounts => None,
     }

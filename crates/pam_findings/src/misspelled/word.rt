@@ -155,7 +155,7 @@ fn nearest_by(
         ArgumentProblem::Unknown(_) | ArgumentProblem::Longer => {
             nearest_known(alloc, arguments, path, word)
         }
-        ArgumentProblem::OtherKind | ArgumentProblem::BadValue => Ok(None),
+        ArgumentProblem::OtherKind | ArgumentProblem::BadValue | ArgumentProblem::Weak => Ok(None),
     }
 }
 

@@ -2,6 +2,8 @@
 use Rattle.std.specs.Prelude.{ℕ, Bool, ◌||◌, List, [], ◌++◌, codes, if◌then◌else◌, nat_eq, Option, None, Some}
 use Rattle.std.specs.List.{ends_with}
 use Rattle.std.specs.Str.{bytes_eq}
+use Rattle.pam_arguments.specs.declared.lacks.Lack.{Lack}
+use Rattle.pam_arguments.specs.declared.lacks.Lack.TheVariants as lacks
 use Rattle.pam_arguments.specs.declared.verdict.Reaction.{Reaction}
 use Rattle.pam_arguments.specs.declared.verdict.Reaction.TheVariants.{Fails, Ignores, Logs}
 use Rattle.pam_findings.specs.declared.host.level.Level.{Level}
@@ -106,7 +108,7 @@ abbrev pub vain_sentence : List ℕ
 vain_sentence =
     codes "whenever the module answers success, the stack fails, whatever other modules answer; mend its control, or what a success leads to"
 
--- S15 to S18, where the argument is not known
+-- S15 to S18 and S23, where the argument is not known
 abbrev pub argument_sentence : List ℕ
 argument_sentence = codes "an argument is not one that the module takes; mend it, or remove it"
 
@@ -133,11 +135,22 @@ argument_naming arguments.Longer word =
 argument_naming arguments.OtherKind word = record { before = codes " does not read "; after = codes " in this kind"; mending = codes "remove it" }
 argument_naming arguments.BadValue word =
     record { before = codes " cannot use the value of "; after = []; mending = codes "write one that its manual page names" }
+argument_naming arguments.Weak word =
+    record { before = codes " stores passwords by a weak hash with "; after = []; mending = codes "write yescrypt in its place" }
 
 -- with the argument if it is known
 abbrev pub argument_text : ArgumentProblem → Option MisspelledText → List ℕ
 argument_text wrong None = argument_sentence
 argument_text wrong (Some misspelled) = naming_text misspelled (argument_naming wrong misspelled.word)
+
+-- S19: what the rule of a module lacks
+abbrev pub lack_sentence : Lack → List ℕ
+lack_sentence lacks.Program = codes "pam_exec.so has no program to run, so it always fails; name one after its options"
+lack_sentence lacks.List = codes "pam_listfile.so lacks one of item=, sense= and file=, so it always answers as onerr= says; write all three"
+lack_sentence lacks.Database = codes "pam_userdb.so has no database, so it always fails; name one by db="
+lack_sentence lacks.UserType = codes "pam_usertype.so has no type of user to test for, so it always fails; write issystem or isregular"
+lack_sentence lacks.Condition =
+    codes "pam_succeed_if.so has a condition that it cannot judge, so it always fails; write a field, a test and a value for each"
 
 -- S8: a line of the accept file that accepts nothing
 abbrev pub unused_sentence : List ℕ
@@ -164,6 +177,7 @@ problem_sentence problems.JumpIntoInclude = inside_sentence
 problem_sentence problems.NoFunction = no_function_sentence
 problem_sentence problems.CallerIsRoot = caller_sentence
 problem_sentence (problems.Argument argument wrong) = argument_sentence
+problem_sentence (problems.BadArguments lack) = lack_sentence lack
 problem_sentence problems.UnknownModule = unknown_module_sentence
 problem_sentence problems.SuccessNeverCounts = vain_sentence
 

@@ -18,7 +18,7 @@ fn are(rt: &impl Abort, table: &Arguments, rows: &[Row]) {
 }
 
 /// pam_unix(8), pam_faillock(8), pam_exec(8), pam_listfile(8), pam_mkhomedir(8).
-static OF_PAGES: [Row; 14] = [
+static OF_PAGES: [Row; 17] = [
     (b"pam_unix", Kind::Auth, b"nullok", Some(Verdict::Known)),
     (
         b"pam_unix",
@@ -50,6 +50,14 @@ static OF_PAGES: [Row; 14] = [
         b"use_authtoken",
         Some(Verdict::Longer(b"use_authtok")),
     ),
+    (b"pam_unix", Kind::Password, b"md5", Some(Verdict::Weak)),
+    (
+        b"pam_unix",
+        Kind::Password,
+        b"md5x",
+        Some(Verdict::Longer(b"md5")),
+    ),
+    (b"pam_unix", Kind::Auth, b"md5", Some(Verdict::Known)),
     (
         b"pam_unix",
         Kind::Auth,

@@ -1,5 +1,5 @@
 use Rattle.std.proofs.Common.{refl}
-use Rattle.pam_explain.specs.Arguments.{argument_of_other_kind, bad_value as bad_value_of_arguments, longer_word, unknown_argument}
+use Rattle.pam_explain.specs.Arguments.{argument_of_other_kind, bad_arguments, bad_value as bad_value_of_arguments, longer_word, unknown_argument, weak_hash}
 use Rattle.pam_explain.specs.Explanations.{families}
 use Rattle.pam_explain.specs.Hosts.{caller_is_root, jump_into_include, jump_past_end, left_over, lets_anybody_in, lets_nobody_in, never_asked}
 use Rattle.pam_explain.specs.Hosts.{no_function, no_module, no_other, nothing_accepted, other_answers, too_large, unreachable_name}
@@ -35,6 +35,6 @@ unfolding families caller_is_root jump_into_include jump_past_end left_over lets
     nul_byte_of_tables table_too_long two_wildcards user_at_host both_ends both_filters candidate_form code_name format_name kind_name level_name
     login memory_of_words moment no_such_key no_such_module no_such_number not_utf8 failed_read release_form setting_form source failed_write
     no_such_service unused_candidate
-    argument_of_other_kind bad_value_of_arguments longer_word unknown_argument
+    argument_of_other_kind bad_arguments bad_value_of_arguments longer_word unknown_argument weak_hash
     success_never_counts unknown_module
 returns c = refl
