@@ -1,4 +1,5 @@
 pub mod Asked
+pub mod Counting
 pub mod Laws
 pub mod Soundness
 pub mod inner

@@ -3,10 +3,13 @@
 ghost use Rattle.std.specs.Prelude.{IfErr, IfOk};
 ghost use Rattle.pam_paths.specs.Known.{may_answer};
 ghost use Rattle.pam_findings.specs.stack.Asked.{AreExactly, IsNeverAsked, JumpsPastEnd};
+ghost use Rattle.pam_findings.specs.stack.Counting.{NeverCounts};
+ghost use Rattle.pam_findings.specs.stack.inner.Counting.{AreCounting};
 ghost use Rattle.pam_findings.specs.stack.inner.Marks.{AreMarks};
 ghost use Rattle.pam_findings.specs.stack.Soundness.{IsReasonFor, SaysNobody, SaysWayIn};
 
 use crate::stack::asked::{Reached, unmarked};
+use crate::stack::counting::never_counting;
 use crate::stack::past_end::passing;
 use crate::stack::way_in::first_way_in;
 use pam_conf::Stack;
@@ -26,6 +29,8 @@ pub struct Soundness {
     pub never_asked: Vec<usize>,
     /// The numbers of the modules that can jump past the end of their list, rising.
     pub jumps_past_end: Vec<usize>,
+    /// The numbers of the modules that may succeed, but in no run that decides success, rising.
+    pub never_counts: Vec<usize>,
 }
 
 /// What the graphs of a stack's runs tell of it.
@@ -45,6 +50,7 @@ impl Searched {
         ensures nobody { IfOk result (λ t. SaysNobody (may_answer free.now) stack.now t.reached.lets_nobody_in) }
         ensures anybody { IfOk result (λ t. SaysWayIn (may_answer failing.now) stack.now t.lets_anybody_in) }
         ensures asked { IfOk result (λ t. AreMarks (may_answer free.now) stack.now t.reached.asked) }
+        ensures counting { IfOk result (λ t. AreCounting (may_answer free.now) stack.now t.reached.counting) }
         ensures reason { IfErr result (IsReasonFor (may_answer free.now) (may_answer failing.now) stack.now) }
     {
         let program = Program::of(alloc, stack)?;
@@ -71,16 +77,20 @@ impl Soundness {
         ensures anybody { IfOk result (λ s. SaysWayIn (may_answer failing.now) stack.now s.lets_anybody_in) }
         ensures never_asked { IfOk result (λ s. AreExactly (IsNeverAsked (may_answer free.now) stack.now) s.never_asked.items) }
         ensures jumps { IfOk result (λ s. AreExactly (JumpsPastEnd (may_answer free.now) stack.now) s.jumps_past_end.items) }
+        ensures never_counts { IfOk result (λ s. AreExactly (NeverCounts (may_answer free.now) stack.now) s.never_counts.items) }
         ensures reason { IfErr result (IsReasonFor (may_answer free.now) (may_answer failing.now) stack.now) }
     {
         let searched = Searched::of(alloc, stack, free, failing)?;
         let never_asked = unmarked(alloc, &searched.reached.asked, stack.modules())?;
         let jumps_past_end = passing(alloc, stack, free, &searched.reached.asked)?;
+        let reached = &searched.reached;
+        let never_counts = never_counting(alloc, stack, free, &reached.asked, &reached.counting)?;
         Ok(Soundness {
             lets_nobody_in: searched.reached.lets_nobody_in,
             lets_anybody_in: searched.lets_anybody_in,
             never_asked,
             jumps_past_end,
+            never_counts,
         })
     }
 }
