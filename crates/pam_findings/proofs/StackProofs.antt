@@ -1,5 +1,6 @@
 pub mod CanPass
 pub mod Counting
+pub mod CountingMarks
 pub mod Exactly
 pub mod Implied
 pub mod MarkLists

@@ -52,12 +52,18 @@ fn succeeding(alloc: Global, nodes: &[Node]) -> Result<Vec<bool>, AllocError>
     Ok(known)
 }
 
-/// Whether success is an answer of one of `edges` by which a walk goes on to the decision success.
-fn success_counts(known: &[bool], edges: &[Edge]) -> bool
+/// Whether success is an answer of an edge, by which a walk goes on to the decision success.
+fn success_counts(known: &[bool], edge: &Edge) -> bool
+    ensures { result ≡ success_counts known.now edge.now }
+{
+    edge.class.contains(Code::SUCCESS) && reaches_success(known, &edge.target)
+}
+
+/// Whether it is so at one of `edges`.
+fn some_edge_counts(known: &[bool], edges: &[Edge]) -> bool
     ensures { result ≡ list_any (success_counts known.now) edges.now }
 {
-    edges.iter().any(|edge| edge.class.contains(Code::SUCCESS)
-        && reaches_success(known, &edge.target))
+    edges.iter().any(|edge| success_counts(known, edge))
 }
 
 /// Marks the modules of nodes at which success counts.
@@ -67,7 +73,7 @@ fn marks_of(known: &[bool], nodes: &[Node]) -> Marks
 {
     let mut marks = [false; MAX_MODULES];
     for node in nodes {
-        if success_counts(known, &node.edges) {
+        if some_edge_counts(known, &node.edges) {
             mark(&mut marks, node.module_number);
         }
     }
@@ -91,7 +97,7 @@ fn never_counts(known: &Known, asked: &Marks, counting: &Marks, number: usize) -
         && !is_marked(counting, number)
 }
 
-/// The numbers of those modules, of the modules 1 to `modules`, rising.
+/// The numbers of the modules of which it is so, of the modules 1 to `modules`, rising.
 fn numbers_never_counting(
     alloc: Global,
     known: &Known,
