@@ -1,8 +1,11 @@
 pub mod CanPass
+pub mod Counting
+pub mod CountingMarks
 pub mod Exactly
 pub mod Implied
 pub mod MarkLists
 pub mod Marking
+pub mod NeverCounting
 pub mod Passing
 pub mod Placed
 pub mod Reaching

@@ -1,9 +1,11 @@
 //! What a stack does to everybody, whatever its modules answer: whether it lets nobody in, or anybody; which of its modules are
-//! never asked, and which can jump past the end of their list.
+//! never asked, which can jump past the end of their list, and of which success never counts.
 #![tactic(auto)]
 
 mod asked;
+mod counting;
 pub mod laws;
+mod marks;
 mod past_end;
 mod soundness;
 mod way_in;

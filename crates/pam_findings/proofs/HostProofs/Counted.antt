@@ -19,8 +19,8 @@ use Rattle.pam_paths.specs.Classes.{class_of}
 use Rattle.pam_paths.specs.Listing.{Allowance, IsAllowed, IsListing}
 use Rattle.pam_paths.specs.Paths.{Agrees, AgreesAlong, PathValue, StepValue, path_of, path_through, step_by}
 use Rattle.pam_text.specs.Members.{Member}
-use Rattle.pam_findings.specs.stack.Asked.{Asks}
-use Rattle.pam_findings.specs.stack.Counting.{Counts, Succeeds}
+use Rattle.pam_findings.specs.stack.Asked.{Asks, AsksWith}
+use Rattle.pam_findings.specs.stack.Counting.{Counts}
 use Rattle.pam_findings.proofs.StackProofs.Placed.{asked-placed, placed-range}
 use Rattle.pam_findings.proofs.StackProofs.WaysIn.{passing-any, path-decides, some-passing}
 
@@ -104,11 +104,11 @@ asked-range allows items number numbered a =
     let same : p.module_text.number ≡ number = sym p.numbered ∙ a.numbered in
     (omega (arith, same, range.0), omega (arith, same, range.1))
 
-module _ (allows : Allowance) (items : Items) (number : ℕ) (numbered : IsNumbered items) (succeeds : Succeeds allows items number) where
+module _ (allows : Allowance) (items : Items) (number : ℕ) (numbered : IsNumbered items) (succeeds : AsksWith allows items number success) where
   may-succeed : allows number success ≡ true
   may-succeed =
       let range = asked-range allows items number numbered succeeds.asks in
-      sym (ap (allows number) succeeds.success) ∙ (succeeds.asks.allowed number range.0 range.1).1
+      sym (ap (allows number) succeeds.answer) ∙ (succeeds.asks.allowed number range.0 range.1).1
 
   -- a path on which the success of the module counts
   path-counts : (a : Assignment) → IsAllowed allows (module_count items) a → counts_on number (path_through items a) ≡ true → Counts allows items number
@@ -134,7 +134,7 @@ module _ (allows : Allowance) (items : Items) (number : ℕ) (numbered : IsNumbe
             numbered =
                 is ∙ eqb-true step.0.module_number number (and_parts (step.0.module_number == number) (is_in success step.0.class) step.2).0;
           };
-          success = with_answer-at a number success;
+          answer = with_answer-at a number success;
         };
         decides = sym (path-decides items b) ∙ ap (λ (p : PathValue). p.decision) takes ∙ eqb-true (path_through items a).decision success parts.0;
       }
@@ -145,7 +145,7 @@ module _ (allows : Allowance) (items : Items) (number : ℕ) (numbered : IsNumbe
       let k = c.succeeds.asks in
       let a = k.answers in
       let step : StepValue = step_by a k.ask in
-      let answer : a k.ask.module_number ≡ success = ap a k.numbered ∙ c.succeeds.success in
+      let answer : a k.ask.module_number ≡ success = ap a k.numbered ∙ c.succeeds.answer in
       and_from ((path_through items a).decision == success) (list_any (succeeds_at number) (path_through items a).steps)
       (eq-eqb (path_through items a).decision success (path-decides items a ∙ c.decides))
       (passing-any (succeeds_at number) (path_through items a).steps step (Member-map (step_by a) k.ask (asked items start_state start_state a) k.is_asked)

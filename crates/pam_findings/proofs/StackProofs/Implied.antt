@@ -12,7 +12,7 @@ use Rattle.pam_paths.specs.Listing.{Allowance}
 use Rattle.pam_paths.specs.Paths.{PathValue, Precedes, key}
 use Rattle.pam_paths.proofs.Listings.{Precedes-irreflexive, Precedes-trans, listing-is, some_assignment}
 use Rattle.pam_paths.proofs.Trees.{listing-tree}
-use Rattle.pam_findings.specs.stack.Laws.{FirstWayInIsOne, JumpingIsAsked, MoreAllowedLetsIn, SomebodyOrNobody, SoundStack}
+use Rattle.pam_findings.specs.stack.Laws.{CountingLetsIn, FirstWayInIsOne, JumpingIsAsked, MoreAllowedLetsIn, SomebodyOrNobody, SoundStack}
 use Rattle.pam_findings.specs.stack.Soundness.{IsFirstWayIn, LetsIn, LetsNobodyIn, SaysNobody}
 use Rattle.pam_findings.proofs.StackProofs.WaysIn.{path-decides, says-nobody, success_goal}
 
@@ -60,3 +60,10 @@ sound_stack free failing items false (Some path) nobody anybody e n = absurd (le
 
 pub jumping_asked : JumpingIsAsked
 jumping_asked allows items number jumps never = never.never jumps.asks
+
+pub counting_lets_in : CountingLetsIn
+counting_lets_in allows items number counts = record {
+  answers = counts.succeeds.asks.answers;
+  allowed = counts.succeeds.asks.allowed;
+  decides = counts.decides;
+}

@@ -6,17 +6,17 @@ use Rattle.std.proofs.lemmas.List.{get_or-set_same, get_or-set_other}
 use Rattle.pam_graph.specs.declared.node.Node.{Node}
 use Rattle.pam_findings.specs.stack.inner.Marks.{has_number, mark_of}
 
-or-false : (a : Bool) → (a || false) ≡ a
+pub or-false : (a : Bool) → (a || false) ≡ a
 or-false true = refl
 or-false false = refl
 
-or-swap : (a b c : Bool) → ((a || b) || c) ≡ (b || (a || c))
+pub or-swap : (a b c : Bool) → ((a || b) || c) ≡ (b || (a || c))
 or-swap true true c = refl
 or-swap true false c = refl
 or-swap false true c = refl
 or-swap false false c = refl
 
-none-marked : (n i : ℕ) → get_or (replicate n false) i false ≡ false
+pub none-marked : (n i : ℕ) → get_or (replicate n false) i false ≡ false
 none-marked zero i = refl
 none-marked (suc n) zero = refl
 none-marked (suc n) (suc i) = none-marked n i

@@ -19,7 +19,7 @@ use Rattle.pam_findings.proofs.StackProofs.Exactly.{range-rises, where-rises}
 use Rattle.pam_findings.proofs.StackProofs.Placed.{Passing, asked-placed, passing-where, placed-one, placed-range, where-passing}
 use Rattle.pam_findings.proofs.StackProofs.WaysIn.{passing-any, some-passing}
 
-not-true : (t : Bool) → not t ≡ true → t ≡ false
+pub not-true : (t : Bool) → not t ≡ true → t ≡ false
 not-true true h = absurd (false≢true h)
 not-true false h = refl
 
@@ -34,7 +34,7 @@ module _ (allows : Allowance) (items : Items) (marks : List Bool) (are : AreMark
   never-unmarked number code true says small may never = absurd (never (says code small may).asks)
   never-unmarked number code false says small may never = refl
 
-  asked-marked : (number : ℕ) (t : Bool) → SaysAsked allows items number t → Asks allows items number → t ≡ true
+  pub asked-marked : (number : ℕ) (t : Bool) → SaysAsked allows items number t → Asks allows items number → t ≡ true
   asked-marked number true says asks = refl
   asked-marked number false says asks = absurd (says asks)
 

@@ -2,7 +2,8 @@
 use Rattle.std.specs.Prelude.{◌≡◌, ℕ, ◌<◌, All, List, length, map, slice_index_or, Option, Some, None, Ok}
 use Rattle.std.specs.BTreeMap.{BTreeMap}
 use Rattle.pam_arguments.specs.declared.lacks.Lack.{Lack}
-use Rattle.pam_findings.specs.stack.Counting.{Counts, Succeeds}
+use Rattle.pam_findings.specs.stack.Asked.{AsksWith}
+use Rattle.pam_findings.specs.stack.Counting.{Counts}
 use Rattle.pam_findings.specs.stack.Soundness.{IsFirstWayIn, LetsIn}
 use Rattle.pam_conf.specs.Resolution.{resolved}
 use Rattle.pam_conf.specs.Stack.{IsNumbered, Items, ModuleText, module_at, module_count}
@@ -44,8 +45,8 @@ pub record IsSoundStack (host : Host) (service : ℕ) (kind : Kind) : Type 0 whe
   pub is_failing : IsFailing host.modules kind items failing
   pub somebody : HasOther items → LetsIn (may_answer free) items
   pub nobody_else : kind ≡ Auth → (answers : Assignment) → IsAllowed (may_answer failing) (module_count items) answers → decided items answers ≡ success → ⊥
-  pub counts : kind ≡ Auth → LetsIn (may_answer free) items → (number : ℕ) → SaysWhoLogsIn failing number → Succeeds (may_answer free) items number →
-      Counts (may_answer free) items number
+  pub counts : kind ≡ Auth → LetsIn (may_answer free) items → (number : ℕ) → SaysWhoLogsIn failing number →
+      AsksWith (may_answer free) items number success → Counts (may_answer free) items number
   pub arguments : (number : ℕ) (rule : ModuleText) (position : ℕ) (wrong : ArgumentProblem) → module_at number items ≡ Some rule →
       wrong_argument kind rule position ≡ Some wrong → level_of_argument wrong ≡ Note
   pub whole : (number : ℕ) (rule : ModuleText) (lack : Lack) → module_at number items ≡ Some rule → lack_in kind rule ≡ Some lack → ⊥

@@ -16,6 +16,11 @@ pub record Asks (allows : Allowance) (items : Items) (number : ℕ) : Type 0 whe
   pub is_asked : Member ask (asked items start_state start_state answers)
   pub numbered : ask.module_number ≡ number
 
+-- such answers, of which the module's own is this code
+pub record AsksWith (allows : Allowance) (items : Items) (number code : ℕ) : Type 0 where
+  pub asks : Asks allows items number
+  pub answer : asks.answers number ≡ code
+
 -- S3: the stack has a module with this number, and no allowed answers make it asked
 pub record IsNeverAsked (allows : Allowance) (items : Items) (number : ℕ) : Type 0 where
   pub first : 1 ≤ number

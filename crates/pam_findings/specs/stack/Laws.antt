@@ -8,6 +8,7 @@ use Rattle.pam_text.specs.Members.{Member}
 use Rattle.pam_paths.specs.Listing.{Allowance, IsAllowed, IsLawful}
 use Rattle.pam_paths.specs.Paths.{PathValue}
 use Rattle.pam_findings.specs.stack.Asked.{IsNeverAsked, JumpsPastEnd, RiseAbove}
+use Rattle.pam_findings.specs.stack.Counting.{Counts}
 use Rattle.pam_findings.specs.stack.Soundness.{IsFirstWayIn, LetsIn, LetsNobodyIn, SaysNobody, SaysWayIn}
 
 -- one knowledge allows only what the other allows
@@ -23,6 +24,10 @@ MoreAllowedLetsIn =
 abbrev pub FirstWayInIsOne : Type 0
 FirstWayInIsOne =
     (allows : Allowance) (items : Items) (one other : PathValue) → IsFirstWayIn allows items one → IsFirstWayIn allows items other → one ≡ other
+
+-- a stack in which the success of a module counts lets somebody in
+abbrev pub CountingLetsIn : Type 0
+CountingLetsIn = (allows : Allowance) (items : Items) (number : ℕ) → Counts allows items number → LetsIn allows items
 
 -- each stack has an answer to S1, and to S2
 abbrev pub SomebodyOrNobody : Type 0

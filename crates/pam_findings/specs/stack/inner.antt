@@ -1,3 +1,4 @@
 -- What no public contract cites.
+pub mod Counting
 pub mod Marks
 pub mod PastEnd

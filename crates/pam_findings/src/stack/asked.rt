@@ -1,6 +1,6 @@
 //! Which modules are asked.
 
-ghost use Rattle.std.specs.Prelude.{◌≡◌, ℕ, ◌-◌, ◌≤◌, ◌==◌, ◌||◌, [], IfErr, IfOk, false, filter, not};
+ghost use Rattle.std.specs.Prelude.{◌≡◌, ℕ, ◌≤◌, [], IfErr, IfOk, filter, not};
 ghost use Rattle.std.specs.List.{range_with_len};
 ghost use Rattle.pam_conf.specs.declared.stack.TheConstants.{MAX_MODULES};
 ghost use Rattle.pam_conf.specs.Stack.{Items};
@@ -8,17 +8,17 @@ ghost use Rattle.pam_graph.specs.declared.graph.TheConstants.{MAX_NODES};
 ghost use Rattle.pam_graph.specs.Order.{AreNodes};
 ghost use Rattle.pam_graph.specs.Reached.{IsReason};
 ghost use Rattle.pam_paths.specs.Known.{may_answer};
+ghost use Rattle.pam_findings.specs.stack.inner.Counting.{AreCounting};
 ghost use Rattle.pam_findings.specs.stack.inner.Marks.{AreMarks, IsProgramOf, has_number, mark_of};
 ghost use Rattle.pam_findings.specs.stack.Soundness.{SaysNobody};
 
+use crate::stack::counting::counting;
+use crate::stack::marks::{Marks, is_marked, mark};
 use crate::stack::way_in::success;
 use pam_dispatch::{MAX_MODULES, Program};
 use pam_graph::{Graph, GraphError, Node};
 use pam_paths::Known;
 use std::alloc::{AllocError, Global};
-
-/// A mark for each module, by its number less 1.
-pub(crate) type Marks = [bool; MAX_MODULES];
 
 /// What the runs of a stack come to.
 #[derive(Clone, Copy)]
@@ -27,26 +27,8 @@ pub(crate) struct Reached {
     pub(crate) lets_nobody_in: bool,
     /// The modules that some run asks.
     pub(crate) asked: Marks,
-}
-
-/// Whether the module with this number is marked.
-pub(crate) fn is_marked(marks: &Marks, number: usize) -> bool
-    ensures { result ≡ mark_of marks.now number }
-{
-    let index = number.saturating_sub(1);
-    if index >= MAX_MODULES {
-        return false;
-    }
-    marks[index]
-}
-
-/// Marks the module with this number.
-fn mark(marks: &mut Marks, number: usize)
-    requires first { 1 ≤ number }
-    requires last { number ≤ MAX_MODULES }
-    ensures { (n : ℕ) → 1 ≤ n → mark_of marks.new n ≡ (n == number || mark_of marks.old n) }
-{
-    marks[number - 1] = true;
+    /// The modules whose success counts, of those that may answer it.
+    pub(crate) counting: Marks,
 }
 
 /// Marks the modules that the nodes of a graph ask.
@@ -66,6 +48,7 @@ impl Reached {
     pub(crate) fn of(alloc: Global, program: &Program, known: &Known) -> Result<Reached, GraphError>
         ensures nobody { (items : Items) → IsProgramOf program.now items → IfOk result (λ r. SaysNobody (may_answer known.now) items r.lets_nobody_in) }
         ensures asked { (items : Items) → IsProgramOf program.now items → IfOk result (λ r. AreMarks (may_answer known.now) items r.asked) }
+        ensures counting { (items : Items) → IsProgramOf program.now items → IfOk result (λ r. AreCounting (may_answer known.now) items r.counting) }
         ensures reason { IfErr result (IsReason MAX_NODES (may_answer known.now) program.now) }
     {
         // A program says with the number of its modules that they are asked in order.
@@ -75,6 +58,7 @@ impl Reached {
         Ok(Reached {
             lets_nobody_in: !lets_in,
             asked: marks_of(graph.nodes()),
+            counting: counting(alloc, &graph)?,
         })
     }
 }

@@ -7,7 +7,7 @@ ghost use Rattle.pam_findings.specs.stack.Asked.{AreExactly, JumpsPastEnd};
 ghost use Rattle.pam_findings.specs.stack.inner.Marks.{AreMarks};
 ghost use Rattle.pam_findings.specs.stack.inner.PastEnd.{can_pass, numbers_where, passes};
 
-use crate::stack::asked::{Marks, is_marked};
+use crate::stack::marks::{Marks, is_marked};
 use pam_codes::{CODES, Code, CodeSet, Control};
 use pam_conf::{Item, Module, Stack};
 use pam_graph::is_past_end;

@@ -4,10 +4,12 @@ ghost use Rattle.std.specs.Prelude.{IfErr, IfOk};
 ghost use Rattle.pam_paths.specs.Known.{may_answer};
 ghost use Rattle.pam_findings.specs.stack.Asked.{AreExactly, IsNeverAsked, JumpsPastEnd};
 ghost use Rattle.pam_findings.specs.stack.Counting.{NeverCounts};
+ghost use Rattle.pam_findings.specs.stack.inner.Counting.{AreCounting};
 ghost use Rattle.pam_findings.specs.stack.inner.Marks.{AreMarks};
 ghost use Rattle.pam_findings.specs.stack.Soundness.{IsReasonFor, SaysNobody, SaysWayIn};
 
 use crate::stack::asked::{Reached, unmarked};
+use crate::stack::counting::never_counting;
 use crate::stack::past_end::passing;
 use crate::stack::way_in::first_way_in;
 use pam_conf::Stack;
@@ -27,7 +29,7 @@ pub struct Soundness {
     pub never_asked: Vec<usize>,
     /// The numbers of the modules that can jump past the end of their list, rising.
     pub jumps_past_end: Vec<usize>,
-    /// The numbers of the modules that may succeed, after which the stack never does, rising.
+    /// The numbers of the modules that may succeed, but in no run that decides success, rising.
     pub never_counts: Vec<usize>,
 }
 
@@ -48,6 +50,7 @@ impl Searched {
         ensures nobody { IfOk result (λ t. SaysNobody (may_answer free.now) stack.now t.reached.lets_nobody_in) }
         ensures anybody { IfOk result (λ t. SaysWayIn (may_answer failing.now) stack.now t.lets_anybody_in) }
         ensures asked { IfOk result (λ t. AreMarks (may_answer free.now) stack.now t.reached.asked) }
+        ensures counting { IfOk result (λ t. AreCounting (may_answer free.now) stack.now t.reached.counting) }
         ensures reason { IfErr result (IsReasonFor (may_answer free.now) (may_answer failing.now) stack.now) }
     {
         let program = Program::of(alloc, stack)?;
@@ -80,12 +83,14 @@ impl Soundness {
         let searched = Searched::of(alloc, stack, free, failing)?;
         let never_asked = unmarked(alloc, &searched.reached.asked, stack.modules())?;
         let jumps_past_end = passing(alloc, stack, free, &searched.reached.asked)?;
+        let reached = &searched.reached;
+        let never_counts = never_counting(alloc, stack, free, &reached.asked, &reached.counting)?;
         Ok(Soundness {
             lets_nobody_in: searched.reached.lets_nobody_in,
             lets_anybody_in: searched.lets_anybody_in,
             never_asked,
             jumps_past_end,
-            never_counts: Vec::new(alloc),
+            never_counts,
         })
     }
 }

@@ -7,7 +7,7 @@ use Rattle.pam_dispatch.specs.Flat.{modules_of, runs_of}
 use Rattle.pam_dispatch.specs.Tree.{runs_of_stack}
 use Rattle.pam_graph.specs.declared.node.Node.{Node}
 use Rattle.pam_paths.specs.Listing.{Allowance}
-use Rattle.pam_findings.specs.stack.Asked.{Asks}
+use Rattle.pam_findings.specs.stack.Asked.{Asks, AsksWith}
 
 -- the mark of the module with this number
 abbrev pub mark_of : List Bool → ℕ → Bool
@@ -25,12 +25,7 @@ pub record IsProgramOf (program : List FlatItem) (items : Items) : Type 0 where
   pub runs : runs_of program ≡ runs_of_stack items
   pub modules : modules_of program ≡ module_count items
 
--- for each answer that a module may give, a run asks the module and gets this answer
-pub record AsksWith (allows : Allowance) (items : Items) (number code : ℕ) : Type 0 where
-  pub asks : Asks allows items number
-  pub answer : asks.answers number ≡ code
-
--- what the mark of a module says
+-- what the mark of a module says; if it is set, then for each answer that the module may give, a run asks it and gets this answer
 abbrev pub SaysAsked : Allowance → Items → ℕ → Bool → Type 0
 SaysAsked allows items number true = (code : ℕ) → code < 31 → allows number code ≡ true → AsksWith allows items number code
 SaysAsked allows items number false = Asks allows items number → ⊥

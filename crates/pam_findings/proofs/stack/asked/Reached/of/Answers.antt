@@ -6,6 +6,7 @@ use Rattle.pam_graph.specs.Walks.{walks}
 use Rattle.pam_paths.specs.Known.{may_answer}
 use Rattle.pam_paths.specs.inner.Known.{some_code}
 use Rattle.pam_findings.specs.stack.inner.Marks.{has_number}
+use Rattle.pam_findings.proofs.StackProofs.Counting.{says-counts}
 use Rattle.pam_findings.proofs.StackProofs.Marking.{listing-of, says-asked}
 use Rattle.pam_findings.proofs.StackProofs.WaysIn.{says-nobody}
 use Rattle.pam_findings.proofs.stack.asked.Reached.of.Goals as goal
@@ -26,3 +27,11 @@ returns-clause-asked c items of number from =
     says-asked allows program items of c.modules-modules.ensures.rise (λ m first last. some_code c.args.known.now m) graph.nodes graph.start number _
     c.in_ok-graph.ensures.nodes (c.in_ok-graph.ensures.stack items of.runs)
     (c.marks_of.ensures number from ∙ ap (has_number number) c.nodes.ensures.nodes)
+
+pub returns-clause-counting : goal.returns-clause-counting
+returns-clause-counting c items of number from may =
+    let allows = may_answer c.args.known.now in
+    let program = c.args.program.now in
+    let graph = c.in_ok-graph.graph in
+    says-counts allows program items of c.modules-modules.ensures.rise graph.nodes c.nodes.ensures.order c.in_ok-graph.ensures.nodes graph.start number _
+    (c.in_ok-graph.ensures.stack items of.runs) (c.in_ok-counting.ensures number from) may
