@@ -1,5 +1,5 @@
 -- Whether the success of a module counts: of each module that may succeed, some run in which it does decides success, or none does.
-use Rattle.std.proofs.Common.{◌≡◌, ◌⊎◌, ℕ, ◌<◌, ◌≤◌, ◌&&◌, Bool, true, false, List, refl, sym, ◌∙◌, ap, subst, inl, inr, arith}
+use Rattle.std.proofs.Common.{◌≡◌, ◌⊎◌, ℕ, ◌<◌, ◌≤◌, ◌&&◌, Bool, true, false, List, map, refl, sym, ◌∙◌, ap, subst, inl, inr, arith}
 use Rattle.std.proofs.lemmas.Bool.{and_from, and_parts, cases_eq, eq-eqb, eqb-true, false≢true, or_cases}
 use Rattle.std.specs.Prelude.{◌==◌}
 use Rattle.std.specs.List.{list_any}
@@ -8,7 +8,7 @@ use Rattle.pam_conf.specs.Stack.{IsNumbered, Items, module_count}
 use Rattle.pam_dispatch.proofs.Numbering.{AsksRise-stack}
 use Rattle.pam_dispatch.specs.Runs.{Ask, AsksRise, Assignment, Runs, asked_by, asks, ends, final_state, outcome_of}
 use Rattle.pam_dispatch.specs.State.{start_state, success}
-use Rattle.pam_dispatch.specs.Tree.{asked, decided, runs_of_stack}
+use Rattle.pam_dispatch.specs.Tree.{asked, runs_of_stack}
 use Rattle.pam_paths.proofs.Alike.{in_class}
 use Rattle.pam_paths.proofs.LawProofs.{agrees_same}
 use Rattle.pam_paths.proofs.Listings.{Member-map, Member-map_back, listing-is, with_answer, with_answer-at, with_answer-other}
@@ -38,12 +38,11 @@ unfolding AsksRise asked_by final_state path_of
 no-later low n (ends s) a number rise below some = false≢true some
 no-later low n (asks ask next) a number rise below some =
     let m = ask.module_number in
-    let rest = next (outcome_of ask (a m)) in
-    elim (or_cases (succeeds_at number (step_by a ask)) (list_any (succeeds_at number) (path_of rest a).steps) some) [
+    elim (or_cases (succeeds_at number (step_by a ask)) (list_any (succeeds_at number) (path_of (next (outcome_of ask (a m))) a).steps) some) [
       | inl t ↦
           let same : m ≡ number = eqb-true m number (and_parts (m == number) (is_in success (class_of ask (a m))) t).0 in
           omega (arith, same, rise.0, below)
-      | inr k ↦ no-later m n rest a number (rise.2 (outcome_of ask (a m))) (omega (arith, rise.0, below)) k
+      | inr k ↦ no-later m n (next (outcome_of ask (a m))) a number (rise.2 (outcome_of ask (a m))) (omega (arith, rise.0, below)) k
     ]
 
 module _ (allows : Allowance) (number : ℕ) where
@@ -79,7 +78,7 @@ module _ (allows : Allowance) (number : ℕ) where
         | inr ne ↦ (
           subst (λ (c : ℕ). Member c (class_of ask (a m))) (sym (with_answer-other a number success m ne))
               (in_class ask (a m) (a m) (ok m (omega (arith, rise.0)) rise.1).0 refl),
-          agrees-still m n rest a up ok (elim cases [
+          agrees-still m n (next (outcome_of ask (a m))) a up ok (elim cases [
             | inl t ↦ absurd (ne (eqb-true m number (and_parts (m == number) (is_in success (class_of ask (a m))) t).0))
             | inr k ↦ k
           ]),
@@ -94,6 +93,19 @@ module _ (allows : Allowance) (number : ℕ) where
             (omega arith, ap (λ (m : ℕ). allows m success) e ∙ may)
         | inr ne ↦ subst (λ (c : ℕ). (c < 31) × (allows k c ≡ true)) (sym (with_answer-other a number success k ne)) (ok k from to)
       ]
+
+-- answers that agree with a path take it
+same-path : (items : Items) (a b : Assignment) → Agrees b (path_of (runs_of_stack items) a) → path_through items b ≡ path_through items a
+same-path items a b agrees = sym (path_of-stack items b) ∙ sym (agrees_same (runs_of_stack items) b a agrees) ∙ path_of-stack items a
+
+-- a step at which the module may answer success is that of an ask of it
+ask-of-step : (number : ℕ) (b : Assignment) (all : List Ask) → list_any (succeeds_at number) (map (step_by b) all) ≡ true →
+    (ask : Ask) × Member ask all × (ask.module_number ≡ number)
+ask-of-step number b all some =
+    let step = some-passing (succeeds_at number) (map (step_by b) all) some in
+    let ask = Member-map_back (step_by b) step.0 all step.1 in
+    let is : ask.0.module_number ≡ step.0.module_number = ap (λ (s : StepValue). s.module_number) (sym ask.2) in
+    (ask.0, ask.1, is ∙ eqb-true step.0.module_number number (and_parts (step.0.module_number == number) (is_in success step.0.class) step.2).0)
 
 -- the module of a number that is asked is one of the stack
 pub asked-range : (allows : Allowance) (items : Items) (number : ℕ) → IsNumbered items → Asks allows items number →
@@ -120,10 +132,8 @@ module _ (allows : Allowance) (items : Items) (number : ℕ) (numbered : IsNumbe
       let same : path_of runs a ≡ path_through items a = path_of-stack items a in
       let Some_at : PathValue → Type 0 = λ p. list_any (succeeds_at number) p.steps ≡ true in
       let agrees = agrees-still allows number 0 (module_count items) runs a (AsksRise-stack items numbered) ok (subst Some_at (sym same) parts.1) in
-      let takes : path_through items b ≡ path_through items a = sym (path_of-stack items b) ∙ sym (agrees_same runs b a agrees) ∙ same in
-      let step = some-passing (succeeds_at number) (path_through items b).steps (subst Some_at (sym takes) parts.1) in
-      let ask = Member-map_back (step_by b) step.0 (asked items start_state start_state b) step.1 in
-      let is : (step_by b ask.0).module_number ≡ step.0.module_number = sym (ap (λ (s : StepValue). s.module_number) ask.2) in
+      let takes : path_through items b ≡ path_through items a = same-path items a b agrees in
+      let ask = ask-of-step number b (asked items start_state start_state b) (subst Some_at (sym takes) parts.1) in
       record {
         succeeds = record {
           asks = record {
@@ -131,8 +141,7 @@ module _ (allows : Allowance) (items : Items) (number : ℕ) (numbered : IsNumbe
             allowed = still-allowed allows number (module_count items) a ok may-succeed;
             ask = ask.0;
             is_asked = ask.1;
-            numbered =
-                is ∙ eqb-true step.0.module_number number (and_parts (step.0.module_number == number) (is_in success step.0.class) step.2).0;
+            numbered = ask.2;
           };
           answer = with_answer-at a number success;
         };

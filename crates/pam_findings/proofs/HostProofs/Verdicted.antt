@@ -68,7 +68,7 @@ module _ (at : Stacked) (j : Judgement) (nobody anybody : Bool) (says_nobody : (
   to-verdict spot (inl (inr m)) = subst (By spot) (sym m.of.problem_is) (m.number, m.of.rule, m.of.at, m.one)
   to-verdict spot (inr v) =
       let m = v.of in
-      subst (By spot) (sym m.of.problem_is) (v.auth, v.somebody, (m.number, m.of.rule, m.of.at, m.one))
+      subst (By spot) (sym m.of.problem_is) (v.auth, (v.somebody, (m.number, m.of.rule, m.of.at, m.one)))
 
   from-verdict : (file : Option ℕ) (line : ℕ) (problem : Problem) →
       (let spot : Spot = record { file = file; line = line; problem = problem } in By spot problem → Parts spot)
@@ -83,10 +83,10 @@ module _ (at : Stacked) (j : Judgement) (nobody anybody : Bool) (says_nobody : (
   from-verdict file line problems.JumpPastEnd h =
       inl (inr record { number = h.0; one = h.3; of = record { problem_is = refl; rule = h.1; at = h.2 } })
   from-verdict file line problems.SuccessNeverCounts h =
-      let m = h.2 in
+      let m = h.1.1 in
       inr record {
         auth = h.0;
-        somebody = h.1;
+        somebody = h.1.0;
         of = record { number = m.0; one = m.3; of = record { problem_is = refl; rule = m.1; at = m.2 } };
       }
   from-verdict file line (problems.TooLarge service kind) h = absurd cc
