@@ -146,7 +146,7 @@ module _ (allows : Allowance) (program : List FlatItem) (items : Items) (of : Is
     (rise : AsksRise 0 (modules_of program) (runs_of program)) where
   -- the run at the key of a node, and the one after the answers that lead there
   module _ (key : KeyValue) (reached : IsReachedKey allows program key) where
-    codes : List ℕ
+    abbrev codes : List ℕ
     codes = reached.reached.0
 
     equal-rests : AreEqualRests (rest_at program key) (after_answers (runs_of program) codes)
@@ -169,7 +169,7 @@ module _ (allows : Allowance) (program : List FlatItem) (items : Items) (of : Is
         (reach allows 0 (modules_of program) (runs_of program) codes number code b rise ok gives reached.reached.1 here)
 
   -- a module that the open run asks is asked by the run of the tree
-  pub on-tree : (number code decision : ℕ) → Reaches allows (modules_of program) (runs_of program) number code decision → AsksWith allows items number code
+  abbrev pub on-tree : (number code decision : ℕ) → Reaches allows (modules_of program) (runs_of program) number code decision → AsksWith allows items number code
   on-tree number code decision r = record {
     asks = record {
       answers = r.answers;

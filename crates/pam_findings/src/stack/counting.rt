@@ -3,6 +3,7 @@
 ghost use Rattle.std.specs.Prelude.{◌≡◌, ℕ, ◌≤◌, [], IfOk, filter};
 ghost use Rattle.std.specs.List.{list_any, range_with_len};
 ghost use Rattle.pam_conf.specs.declared.stack.TheConstants.{MAX_MODULES};
+ghost use Rattle.pam_dispatch.specs.State.{success};
 ghost use Rattle.pam_graph.specs.Order.{AreNodes};
 ghost use Rattle.pam_paths.specs.Known.{may_answer};
 ghost use Rattle.pam_findings.specs.stack.Asked.{AreExactly};
@@ -88,13 +89,18 @@ pub(crate) fn counting(alloc: Global, graph: &Graph) -> Result<Marks, AllocError
     Ok(marks_of(&known, graph.nodes()))
 }
 
+/// Whether the module with this number may answer success.
+fn may_succeed(known: &Known, number: usize) -> bool
+    ensures { result ≡ may_answer known.now number success }
+{
+    known.allowed(number).contains(Code::SUCCESS)
+}
+
 /// Whether a module is asked and may answer success, which does not count.
 fn never_counts(known: &Known, asked: &Marks, counting: &Marks, number: usize) -> bool
     ensures { result ≡ never_counts (may_answer known.now) asked.now counting.now number }
 {
-    is_marked(asked, number)
-        && known.allowed(number).contains(Code::SUCCESS)
-        && !is_marked(counting, number)
+    is_marked(asked, number) && may_succeed(known, number) && !is_marked(counting, number)
 }
 
 /// The numbers of the modules of which it is so, of the modules 1 to `modules`, rising.

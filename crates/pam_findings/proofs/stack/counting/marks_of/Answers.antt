@@ -1,4 +1,4 @@
-use Rattle.std.proofs.Common.{◌≡◌, ◌+◌, ◌++◌, ◌==◌, ◌∷◌, ◌∙◌, ◌||◌, [], Bool, List, ap, drop, subst, sym}
+use Rattle.std.proofs.Common.{◌≡◌, ◌+◌, ◌++◌, ◌≤◌, ◌==◌, ◌∷◌, ◌∙◌, ◌||◌, [], Bool, List, ℕ, ap, drop, subst, sym}
 use Rattle.std.proofs.lemmas.List.{drop_all}
 use Rattle.std.specs.List.{list_any}
 use Rattle.pam_graph.specs.declared.node.Edge.{Edge}
@@ -46,9 +46,9 @@ loop-node-preserved c =
     let counts = list_any (success_counts known) node.edges.items in
     let is : c.some_edge_counts.result ≡ counts =
     c.some_edge_counts.ensures ∙ ap (λ (es : List Edge). list_any (success_counts known) es) c.deref.ensures.value in
-    let before : (n : _) → 1 ≤ n → (mark_of old n || some_counts known n (node ∷ rest)) ≡ some_counts known n nodes =
+    let before : (n : ℕ) → 1 ≤ n → (mark_of old n || some_counts known n (node ∷ rest)) ≡ some_counts known n nodes =
     λ n from. sym (ap (λ (x : List Node). mark_of old n || some_counts known n x) left) ∙ c.loop-node.invariant.marked n from in
-    let later = (order.0 ++ node.module_number ∷ [], (subst (AreNodes order.0) left order.1).1) in
+    let later : (before : List ℕ) × AreNodes before rest = (order.0 ++ node.module_number ∷ [], (subst (AreNodes order.0) left order.1).1) in
     elim c.if-some_edge_counts.branch [
       | then-some_edge_counts w ↦ rw w.marks-is (record {
         marked = λ n from. marked-more (mark_of w.mark.new.marks n) (mark_of old n) (n == node.module_number) counts (some_counts known n rest)
