@@ -1,6 +1,5 @@
 -- How grave the findings of a host are.
 use Rattle.std.specs.Prelude.{if◌then◌else◌}
-use Rattle.pam_arguments.specs.declared.verdict.Reaction.{Reaction}
 use Rattle.pam_arguments.specs.declared.verdict.Reaction.TheVariants.{Ignores}
 use Rattle.pam_conf.specs.declared.error.FaultKind.{FaultKind}
 use Rattle.pam_conf.specs.declared.error.FaultKind.TheVariants as faults

@@ -1,4 +1,4 @@
-use Rattle.std.proofs.Common.{◌≡◌, ◌∙◌, ℕ, List, ap, arith, length, suc}
+use Rattle.std.proofs.Common.{◌≡◌, ◌∙◌, ap, arith, length, suc}
 use Rattle.pam_arguments.specs.Views.{module_view}
 use Rattle.pam_conf.specs.ItemsOf.{module_text}
 use Rattle.pam_findings.specs.host.Arguments.{wrong_by}

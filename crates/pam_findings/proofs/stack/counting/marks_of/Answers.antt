@@ -1,4 +1,4 @@
-use Rattle.std.proofs.Common.{◌≡◌, ◌+◌, ◌++◌, ◌≤◌, ◌==◌, ◌∷◌, ◌∙◌, ◌||◌, [], Bool, List, ℕ, ap, drop, subst, sym}
+use Rattle.std.proofs.Common.{◌≡◌, ◌+◌, ◌++◌, ◌≤◌, ◌==◌, ◌∷◌, ◌∙◌, ◌||◌, [], List, ℕ, ap, drop, subst, sym}
 use Rattle.std.proofs.lemmas.List.{drop_all}
 use Rattle.std.specs.List.{list_any}
 use Rattle.pam_graph.specs.declared.node.Edge.{Edge}
