@@ -1,10 +1,9 @@
 -- The modules whose success never counts, by the marks of those that are asked and of those whose success counts.
-use Rattle.std.proofs.Common.{◌≡◌, ℕ, ◌<◌, ◌≤◌, Bool, true, false, not, ◌&&◌, filter, List, refl, sym, ◌∙◌, ap, subst, arith}
+use Rattle.std.proofs.Common.{◌≡◌, ℕ, ◌≤◌, Bool, true, false, not, ◌&&◌, filter, List, refl, sym, ◌∙◌, ap, subst, arith}
 use Rattle.std.proofs.lemmas.Bool.{and_from, and_parts, false≢true}
 use Rattle.std.specs.List.{range_with_len}
 use Rattle.pam_conf.specs.Stack.{Items, IsNumbered, module_count}
 use Rattle.pam_dispatch.specs.State.{start_state, success}
-use Rattle.pam_text.specs.Members.{Member}
 use Rattle.pam_paths.specs.Listing.{Allowance}
 use Rattle.pam_paths.proofs.Alike.{Member-codes, Member-codes_back, Member-filter, Member-filter_back}
 use Rattle.pam_findings.specs.stack.Asked.{AreExactly, Asks, AsksWith}

@@ -8,7 +8,8 @@ ghost use Rattle.pam_graph.specs.Order.{AreNodes};
 ghost use Rattle.pam_paths.specs.Known.{may_answer};
 ghost use Rattle.pam_findings.specs.stack.Asked.{AreExactly};
 ghost use Rattle.pam_findings.specs.stack.Counting.{NeverCounts};
-ghost use Rattle.pam_findings.specs.stack.inner.Counting.{AreCounting, leads_to_success, never_counts, reaches_success, some_counts, succeeding, success_counts};
+ghost use Rattle.pam_findings.specs.stack.inner.Counting.{AreCounting, leads_to_success, never_counts, reaches_success, some_counts};
+ghost use Rattle.pam_findings.specs.stack.inner.Counting.{succeeding, success_counts};
 ghost use Rattle.pam_findings.specs.stack.inner.Marks.{AreMarks, mark_of};
 
 use crate::stack::marks::{Marks, is_marked, mark};

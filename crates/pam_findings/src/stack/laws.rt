@@ -1,6 +1,7 @@
 //! Laws of the definitions that the contracts cite: each is the contract of an empty function.
 
-ghost use Rattle.pam_findings.specs.stack.Laws.{CountingLetsIn, FirstWayInIsOne, JumpingIsAsked, MoreAllowedLetsIn, RisingListsAreOne, SomebodyOrNobody, SoundStack};
+ghost use Rattle.pam_findings.specs.stack.Laws.{CountingLetsIn, FirstWayInIsOne, JumpingIsAsked, MoreAllowedLetsIn, RisingListsAreOne};
+ghost use Rattle.pam_findings.specs.stack.Laws.{SomebodyOrNobody, SoundStack};
 
 /// A stack lets somebody in or nobody. A stack that lets anybody in does not let nobody in, and there is at most one first way
 /// in. Where `lets_nobody_in` is false and `lets_anybody_in` is `None`, some answers let somebody in, and none let in anybody

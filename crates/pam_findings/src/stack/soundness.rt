@@ -83,8 +83,13 @@ impl Soundness {
         let searched = Searched::of(alloc, stack, free, failing)?;
         let never_asked = unmarked(alloc, &searched.reached.asked, stack.modules())?;
         let jumps_past_end = passing(alloc, stack, free, &searched.reached.asked)?;
-        let reached = &searched.reached;
-        let never_counts = never_counting(alloc, stack, free, &reached.asked, &reached.counting)?;
+        let never_counts = never_counting(
+            alloc,
+            stack,
+            free,
+            &searched.reached.asked,
+            &searched.reached.counting,
+        )?;
         Ok(Soundness {
             lets_nobody_in: searched.reached.lets_nobody_in,
             lets_anybody_in: searched.lets_anybody_in,

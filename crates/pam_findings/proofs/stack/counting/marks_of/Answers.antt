@@ -1,4 +1,4 @@
-use Rattle.std.proofs.Common.{◌≡◌, ◌+◌, ◌++◌, ◌≤◌, ◌==◌, ◌∷◌, ◌∙◌, ◌||◌, [], Bool, List, ℕ, ap, drop, subst, sym}
+use Rattle.std.proofs.Common.{◌≡◌, ◌+◌, ◌++◌, ◌≤◌, ◌==◌, ◌∷◌, ◌∙◌, ◌||◌, [], List, ℕ, ap, drop, subst, sym}
 use Rattle.std.proofs.lemmas.List.{drop_all}
 use Rattle.std.specs.List.{list_any}
 use Rattle.pam_graph.specs.declared.node.Edge.{Edge}
@@ -64,7 +64,7 @@ loop-node-preserved c =
 
 pub returns : goal.returns
 returns c n from =
-    let marks = c.loop-node.marks in
-    sym (or-false (mark_of marks n))
-    ∙ sym (ap (λ (x : List Node). mark_of marks n || some_counts c.args.known.now n x) (drop_all c.loop-node.node-index c.args.nodes.now c.loop-node-test.false))
+    let marked = mark_of c.loop-node.marks n in
+    sym (or-false marked)
+    ∙ sym (ap (λ (x : List Node). marked || some_counts c.args.known.now n x) (drop_all c.loop-node.node-index c.args.nodes.now c.loop-node-test.false))
     ∙ c.loop-node.invariant.marked n from
