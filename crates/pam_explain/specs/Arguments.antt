@@ -75,7 +75,7 @@ bad_value =
       example =
           codes "# login\n"
           ++ codes "auth required pam_faillock.so preauth deny=three\n"
-          ++ codes "auth required pam_unix.so\n"
+          ++ codes "auth sufficient pam_unix.so\n"
           ++ codes "auth [default=die] pam_faillock.so authfail deny=three";
       linux_pam =
           codes "1.5.2 and 1.7.0 leave arguments to the modules. Many of\n"

@@ -35,19 +35,20 @@ unused_candidate =
       name = codes "UnusedCandidate";
       level = Error;
       meaning =
-          codes "No service that check looks at reads the file of a candidate: not as its own file,\n"
-          ++ codes "not by an include, and not as the file of the service other. So the check would\n"
-          ++ codes "be the same without the candidate, and would say nothing of it.";
+          codes "No service that check looks at reads the file of a candidate: not as its own\n"
+          ++ codes "file, not by an include, and not as the file of the service other. So the\n"
+          ++ codes "check would be the same without the candidate, and would say nothing of it.";
       example =
           codes "# sshd\n"
           ++ codes "auth required pam_unix.so\n"
           ++ codes "$ pamcheck check sshd --dir . --with ssdh=sshd";
       linux_pam =
-          codes "it reads the file of the service that a program asks for, the files that this\n"
-          ++ codes "one includes, and other. A file that none of them names changes nothing.";
+          codes "it reads the file of the service that a program asks for, the\n"
+          ++ codes "files that this one includes, and other. A file that none of them names\n"
+          ++ codes "changes nothing.";
       mending =
-          codes "write the name of the file that is to be replaced, or name a service that\n"
-          ++ codes "reads it. check without a SERVICE looks at all of them.";
+          codes "write the name of the file that is to be replaced, or name a\n"
+          ++ codes "service that reads it. check without a SERVICE looks at all of them.";
     }
 
 -- READS AND WRITES

@@ -56,7 +56,7 @@ backslash_blank =
           codes "A line ends in a backslash with blanks after it. It does not go on with the\n"
           ++ codes "next line: the backslash is an argument.";
       example =
-          codes "$ printf 'auth required pam_env.so \\\\ \\n' >login\n"
+          codes "$ printf 'auth required pam_exec.so /bin/true \\\\ \\n' >login\n"
           ++ codes "$ echo 'auth required pam_unix.so' >>login";
       linux_pam =
           codes "1.5.2 and 1.7.0 go on with the next line, so the next rule becomes\n"
@@ -159,7 +159,7 @@ empty_module_name =
           ++ codes "its last / and before its last dot.";
       example =
           codes "# login\n"
-          ++ codes "auth required /lib/security/.so";
+          ++ codes "session required /lib/security/.so";
       linux_pam =
           codes "1.5.2 and 1.7.0 refuse the whole configuration, which locks out: of\n"
           ++ codes "each service, if the line is in the file other. What substack names is such a\n"

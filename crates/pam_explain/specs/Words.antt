@@ -242,9 +242,9 @@ candidate_form =
       name = codes "CandidateForm";
       level = Error;
       meaning =
-          codes "A value of --with does not have the form NAME=FILE, its NAME has a slash, or a\n"
-          ++ codes "SERVICE of check that is a file ends in a slash. Or one of these is given beside\n"
-          ++ codes "--conf, whose one file is for all services and has no NAME.";
+          codes "A value of --with does not have the form NAME=FILE, its NAME has a slash, or\n"
+          ++ codes "a SERVICE of check that is a file ends in a slash. Or one of these is given\n"
+          ++ codes "beside --conf, whose one file is for all services and has no NAME.";
       example =
           codes "$ pamcheck show login auth --dir . --with login";
       linux_pam = fault_of_words;

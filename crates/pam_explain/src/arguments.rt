@@ -93,7 +93,7 @@ fn bad_value() -> Explanation
         example: concat!(
             "# login\n",
             "auth required pam_faillock.so preauth deny=three\n",
-            "auth required pam_unix.so\n",
+            "auth sufficient pam_unix.so\n",
             "auth [default=die] pam_faillock.so authfail deny=three"
         ),
         linux_pam: concat!(

@@ -47,9 +47,9 @@ fn unused_candidate() -> Explanation
         name: "UnusedCandidate",
         level: Level::Error,
         meaning: concat!(
-            "No service that check looks at reads the file of a candidate: not as its own file,\n",
-            "not by an include, and not as the file of the service other. So the check would\n",
-            "be the same without the candidate, and would say nothing of it."
+            "No service that check looks at reads the file of a candidate: not as its own\n",
+            "file, not by an include, and not as the file of the service other. So the\n",
+            "check would be the same without the candidate, and would say nothing of it."
         ),
         example: concat!(
             "# sshd\n",
@@ -57,12 +57,13 @@ fn unused_candidate() -> Explanation
             "$ pamcheck check sshd --dir . --with ssdh=sshd"
         ),
         linux_pam: concat!(
-            "it reads the file of the service that a program asks for, the files that this\n",
-            "one includes, and other. A file that none of them names changes nothing."
+            "it reads the file of the service that a program asks for, the\n",
+            "files that this one includes, and other. A file that none of them names\n",
+            "changes nothing."
         ),
         mending: concat!(
-            "write the name of the file that is to be replaced, or name a service that\n",
-            "reads it. check without a SERVICE looks at all of them."
+            "write the name of the file that is to be replaced, or name a\n",
+            "service that reads it. check without a SERVICE looks at all of them."
         ),
     }
 }

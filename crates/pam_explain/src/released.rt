@@ -70,7 +70,7 @@ fn backslash_blank() -> Explanation
             "next line: the backslash is an argument."
         ),
         example: concat!(
-            "$ printf 'auth required pam_env.so \\\\ \\n' >login\n",
+            "$ printf 'auth required pam_exec.so /bin/true \\\\ \\n' >login\n",
             "$ echo 'auth required pam_unix.so' >>login"
         ),
         linux_pam: concat!(
@@ -182,7 +182,7 @@ fn empty_module_name() -> Explanation
             "The path of a module has no name: nothing, or only a question mark, is after\n",
             "its last / and before its last dot."
         ),
-        example: concat!("# login\n", "auth required /lib/security/.so"),
+        example: concat!("# login\n", "session required /lib/security/.so"),
         linux_pam: concat!(
             "1.5.2 and 1.7.0 refuse the whole configuration, which locks out: of\n",
             "each service, if the line is in the file other. What substack names is such a\n",

@@ -268,9 +268,9 @@ fn candidate_form() -> Explanation
         name: "CandidateForm",
         level: Level::Error,
         meaning: concat!(
-            "A value of --with does not have the form NAME=FILE, its NAME has a slash, or a\n",
-            "SERVICE of check that is a file ends in a slash. Or one of these is given beside\n",
-            "--conf, whose one file is for all services and has no NAME."
+            "A value of --with does not have the form NAME=FILE, its NAME has a slash, or\n",
+            "a SERVICE of check that is a file ends in a slash. Or one of these is given\n",
+            "beside --conf, whose one file is for all services and has no NAME."
         ),
         example: "$ pamcheck show login auth --dir . --with login",
         linux_pam: FAULT_OF_WORDS,
