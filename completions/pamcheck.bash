@@ -8,8 +8,8 @@ _pamcheck_codes='success open_err symbol_err service_err system_err buf_err perm
     authtok_disable_aging try_again ignore abort authtok_expired module_unknown bad_item conv_again'
 _pamcheck_numbers='E1 E2 E3 E4 E5 E6 E7 E8 E9 E10 E11 E12 E13 E14 E15 E16 E17 E18 E19 DE1 TE1 TE2 TE3 TE4 TE5 TE6 TE7
     TE8 TE9 TE10 TE11 TE12 TE13 TE14 TE15 TE16 C1 C2 C3 C4 M1 M2 M4 U1 U2 U3 U4 U5 U6 U7 U8 U9 U10 U11
-    U12 U13 U14 U15 U16 U17 U18 U19 V1 V2 L1 L2 L3 L4 L5 L6 L7 L8 L9 L10 A1 A2 A3 A4 A5 A6 A7 T1 T2 T3
-    T4 S1 S2 S3 S4 S5 S6 S7 S8 S9 S10 S11 S12 S13 S14 S15 S16 S17 S18 S19 S23 S25 S26'
+    U12 U13 U14 U15 U16 U17 U18 U19 U20 V1 V2 L1 L2 L3 L4 L5 L6 L7 L8 L9 L10 A1 A2 A3 A4 A5 A6 A7 T1 T2
+    T3 T4 S1 S2 S3 S4 S5 S6 S7 S8 S9 S10 S11 S12 S13 S14 S15 S16 S17 S18 S19 S22 S23 S25 S26'
 
 # The options of a command.
 _pamcheck_options() {
@@ -21,10 +21,10 @@ _pamcheck_options() {
         decide) echo '--dir --vendor-dir --conf --root --with --json --help' ;;
         paths) echo '--dir --vendor-dir --conf --root --with --json --limit --after --before --decision --asks --modules
             --user --rhost --tty --access --time --group --returns --set --at --at-unix --zone --help' ;;
-        outcomes) echo '--dir --vendor-dir --conf --root --with --json --modules --user --rhost --tty --access --time
-            --group --returns --set --at --at-unix --zone --help' ;;
-        graph) echo '--dir --vendor-dir --conf --root --with --format --modules --user --rhost --tty --access --time
-            --group --returns --set --at --at-unix --zone --help' ;;
+        outcomes) echo '--dir --vendor-dir --conf --root --with --json --answers --facts --modules --user --rhost --tty
+            --access --time --group --returns --set --at --at-unix --zone --help' ;;
+        graph) echo '--dir --vendor-dir --conf --root --with --format --answers --facts --modules --user --rhost --tty
+            --access --time --group --returns --set --at --at-unix --zone --help' ;;
         access) echo '--access --user --tty --group --rhost --json --help' ;;
         time) echo '--time --user --tty --at --at-unix --zone --json --help' ;;
         *) echo --help ;;
@@ -45,6 +45,7 @@ _pamcheck_takes() {
         *:--decision) takes=set ;;
         *:--user) takes=user ;;
         *:--rhost) takes=host ;;
+        *:--answers) takes='any possible' ;;
         *:--format) takes='dot mermaid svg' ;;
         *:--*) takes=text ;;
         compare:0 | compare:1) takes=file ;;

@@ -122,8 +122,8 @@ set -g __pamcheck_codes success open_err symbol_err service_err system_err buf_e
     authtok_disable_aging try_again ignore abort authtok_expired module_unknown bad_item conv_again
 set -g __pamcheck_numbers E1 E2 E3 E4 E5 E6 E7 E8 E9 E10 E11 E12 E13 E14 E15 E16 E17 E18 E19 DE1 TE1 TE2 TE3 TE4 TE5 TE6 TE7 \
     TE8 TE9 TE10 TE11 TE12 TE13 TE14 TE15 TE16 C1 C2 C3 C4 M1 M2 M4 U1 U2 U3 U4 U5 U6 U7 U8 U9 U10 U11 \
-    U12 U13 U14 U15 U16 U17 U18 U19 V1 V2 L1 L2 L3 L4 L5 L6 L7 L8 L9 L10 A1 A2 A3 A4 A5 A6 A7 T1 T2 T3 \
-    T4 S1 S2 S3 S4 S5 S6 S7 S8 S9 S10 S11 S12 S13 S14 S15 S16 S17 S18 S19 S23 S25 S26
+    U12 U13 U14 U15 U16 U17 U18 U19 U20 V1 V2 L1 L2 L3 L4 L5 L6 L7 L8 L9 L10 A1 A2 A3 A4 A5 A6 A7 T1 T2 \
+    T3 T4 S1 S2 S3 S4 S5 S6 S7 S8 S9 S10 S11 S12 S13 S14 S15 S16 S17 S18 S19 S22 S23 S25 S26
 # The options without a value: those of each command, and those of one.
 set -g __pamcheck_flags --json 'compare --conf' 'compare --root'
 
@@ -179,7 +179,7 @@ complete -c pamcheck -n '__pamcheck_in check' -l time -r -F \
     -d 'The time table of pam_time.so, in place of that of the root'
 complete -c pamcheck -n '__pamcheck_in check paths outcomes graph access' -l group -r -F \
     -d 'The group file'
-complete -c pamcheck -n '__pamcheck_in check compare' -l facts -r -F \
+complete -c pamcheck -n '__pamcheck_in check compare outcomes graph' -l facts -r -F \
     -d 'What is known of more modules, a line for each; see pamcheck facts'
 complete -c pamcheck -n '__pamcheck_in check' -l accept -r -F \
     -d 'The findings that are meant to be, a line for each, as S2 SERVICE auth'
@@ -222,6 +222,8 @@ complete -c pamcheck -n '__pamcheck_in paths outcomes graph time' -l at-unix -x 
     -d 'The moment, in seconds since 1970'
 complete -c pamcheck -n '__pamcheck_in paths outcomes graph time' -l zone -x \
     -d 'The POSIX zone rule of --at-unix; UTC0 if left out'
+complete -c pamcheck -n '__pamcheck_in outcomes graph' -l answers -x -a 'any possible' \
+    -d 'any or possible: what modules can return of which nothing else tells; possible if left out'
 complete -c pamcheck -n '__pamcheck_in graph' -l format -x -a 'dot mermaid svg' \
     -d 'dot (for Graphviz), mermaid or svg; dot if left out'
 complete -c pamcheck -n '__pamcheck_in access' -l access -r -F -d 'The table'

@@ -12,6 +12,7 @@ from model.stacks import CODES
 
 KINDS = ["auth", "auth", "account", "password", "session"]
 LIMIT = 40
+ANY = ["--answers", "any"]
 PAGE = 9
 GUARDS = {"pam_deny.so", "pam_warn.so"}
 FINDING = re.compile(rb"(error|warning|note): ([A-Z]+[0-9]+) ([A-Za-z0-9]+): ")
@@ -61,9 +62,9 @@ def compare_lists(asked):
 
 
 def compare_outcomes(asked, modules):
-    """The decisions of `outcomes`, as text and as JSON, with the first path to each."""
-    _, *lines, last = asked.lines("outcomes")
-    _, *outcomes, total = asked.objects("outcomes")
+    """The decisions of `outcomes` for any answers, as text and as JSON, with the first path to each."""
+    _, *lines, last = asked.lines("outcomes", *ANY)
+    _, *outcomes, total = asked.objects("outcomes", *ANY)
     told = [(line.split(None, 1)[0].decode(), line.split()[1].decode()) for line in lines]
     same("outcomes as text and as JSON", told, [(found["decision"], found["ways"]) for found in outcomes])
     same("total as text and as JSON", last.split()[1].decode(), total["ways"])
@@ -72,6 +73,21 @@ def compare_outcomes(asked, modules):
     for found in outcomes[:2] + outcomes[-1:]:
         compare_first(asked, modules, found)
     return outcomes
+
+
+def compare_possible(asked, outcomes):
+    """The decisions of `outcomes` for possible answers, which are some of those for any, each in no more ways."""
+    *possible, total = asked.objects("outcomes")[1:]
+    same("what is possible and its name", asked.lines("outcomes"), asked.lines("outcomes", "--answers", "possible"))
+    ways = {found["decision"]: number_of(found["ways"]) for found in outcomes}
+    more = [found["decision"] for found in possible if number_of(found["ways"]) > ways.get(found["decision"], 0)]
+    same("decisions that are possible in more ways than any answers give", [], more)
+    same("a decision is possible", True, number_of(total["ways"]) > 0)
+    return possible
+
+
+def number_of(ways):
+    return int(ways.rstrip("+"))
 
 
 def compare_first(asked, modules, found):
@@ -115,11 +131,11 @@ def compare_listings(asked, outcomes, modules):
              whole_listing(asked, "--asks", str(number)))
 
 
-def compare_drawings(asked, outcomes):
+def compare_drawings(asked, outcomes, *more):
     """The ends of each drawing are the decisions."""
     ends = sorted(CODES.index(found["decision"].encode()) for found in outcomes)
     for form, pattern in END.items():
-        got = asked.run("graph", *asked.stack, "--format", form)
+        got = asked.run("graph", *asked.stack, "--format", form, *more)
         if got.status == 0:
             same("the ends of " + form, ends, sorted(int(number) for number in pattern.findall(got.stdout)))
 
@@ -143,10 +159,11 @@ def has(findings, number, service, kind):
 
 
 def compare_with_check(findings, service, kind, modules, outcomes):
-    """A stack that no answers let succeed is found to let nobody in, unless it is meant to deny."""
+    """A stack that no possible answers let succeed is found to let nobody in, unless it is meant to deny, and no other stack is."""
     is_meant = all(name_of(module["path"]) in GUARDS for module in modules)
-    if not is_meant and all(found["decision"] != "success" for found in outcomes):
-        same("S1 where nothing decides success", True, has(findings, "S1", service, kind))
+    if not is_meant:
+        is_shut = all(found["decision"] != "success" for found in outcomes)
+        same("S1 where nothing decides success", is_shut, has(findings, "S1", service, kind))
 
 
 def compare_with_itself(asked):
@@ -163,9 +180,11 @@ def compare_stack(asked, service, kind, findings):
     """The answers about a stack that is accepted."""
     modules = compare_lists(asked)
     outcomes = compare_outcomes(asked, modules)
-    compare_drawings(asked, outcomes)
-    compare_with_check(findings, service, kind, modules, outcomes)
-    ways = asked.objects("outcomes")[-1]["ways"]
+    possible = compare_possible(asked, outcomes)
+    compare_drawings(asked, outcomes, *ANY)
+    compare_drawings(asked, possible)
+    compare_with_check(findings, service, kind, modules, possible)
+    ways = asked.objects("outcomes", *ANY)[-1]["ways"]
     if not ways.endswith("+") and 0 < int(ways) <= LIMIT:
         compare_listings(asked, outcomes, modules)
 

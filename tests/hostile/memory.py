@@ -102,6 +102,7 @@ ASKED = [
     (["time", "login", "--time", "time", "--user", "alice", "--at-unix", "1715400000",
       "--zone", "CET-1CEST,M3.5.0,M10.5.0/3"], TABLES),
     (["outcomes", "login", "auth", "--dir", "stack"], OUTCOMES),
+    (["outcomes", "login", "auth", "--dir", "stack", "--facts", "facts"], OUTCOMES),
     (["outcomes", "login", "account", "--dir", "stack", *ACCESS_TABLE, *TIME_TABLE, *RETURNS_FILE], TABLE_OUTCOMES),
     (["graph", "login", "auth", "--dir", "stack"], DRAWINGS),
     (["graph", "login", "account", "--dir", "stack", "--format", "mermaid", *ACCESS_TABLE, *TIME_TABLE, *RETURNS_FILE],

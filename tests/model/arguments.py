@@ -115,6 +115,12 @@ def lack(name, kind, words):
     return None
 
 
+def always_fails(name, kind, words):
+    """Whether a module always fails, by what its arguments are."""
+    refused = "S15", REACTIONS.index(b"fails")
+    return lack(name, kind, words) not in (None, 1) or any(wrong(name, kind, word) == refused for word in words)
+
+
 def nearest(name, word):
     """The nearest argument of a module: of a word with a value only its name counts."""
     front, sign, _ = word.partition(b"=")

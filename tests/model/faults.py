@@ -60,6 +60,7 @@ NAMES = dict(line.split() for line in """
     U17 SettingForm
     U18 NoSuchService
     U19 UnusedCandidate
+    U20 AnswersName
     V1 Read
     V2 Write
 """.strip().splitlines())

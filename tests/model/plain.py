@@ -14,6 +14,7 @@ from model import outcomes as plain_outcomes
 from model.faults import Fault
 from model.sources import found, listed, read
 
+ANSWERS = b" --answers --facts"
 KNOWING = b" --modules --access --time --group --returns --set --user --rhost --tty --at --at-unix --zone"
 SOURCES = b"--dir --vendor-dir --conf --root --with"
 OPTIONS = {
@@ -22,8 +23,8 @@ OPTIONS = {
     b"show": SOURCES + b" --as --json",
     b"decide": SOURCES + b" --json",
     b"paths": SOURCES + b" --json --limit --after --before --decision --asks" + KNOWING,
-    b"outcomes": SOURCES + b" --json" + KNOWING,
-    b"graph": SOURCES + b" --format" + KNOWING,
+    b"outcomes": SOURCES + b" --json" + ANSWERS + KNOWING,
+    b"graph": SOURCES + b" --format" + ANSWERS + KNOWING,
     b"access": b"--access --user --group --rhost --tty --json",
     b"time": b"--time --user --tty --at --at-unix --zone --json",
     b"facts": b"",
@@ -146,6 +147,9 @@ class Request:
         self.format = self.options.get(b"--format", b"dot")
         if self.format not in graph.FORMATS:
             raise Fault("U12")
+        self.answers = self.options.get(b"--answers", b"any" if self.command == b"paths" else b"possible")
+        if self.answers not in (b"any", b"possible"):
+            raise Fault("U20")
         self.decisions = decisions_of(self.options[b"--decision"]) if b"--decision" in self.options else set()
         self.settings = settings_of(self.options)
         if self.command in (*OF_PATHS, b"time"):
@@ -192,8 +196,9 @@ class Request:
         self.tables, self.there = {}, None
         if self.command in OF_PATHS:
             self.learn(source, tree)
-        for option in (b"--group", b"--access", b"--time", b"--returns"):
-            if option in self.options and self.command != b"check":
+        for option in (b"--group", b"--access", b"--time", b"--facts", b"--returns"):
+            is_asked = option != b"--facts" or self.command in OF_PATHS and self.answers == b"possible"
+            if option in self.options and is_asked and self.command != b"check":
                 self.tables[option] = read(tree, self.options[option])
         if self.command == b"access":
             return self.access()
@@ -206,9 +211,10 @@ class Request:
         if self.command == b"check":
             return self.check(source, tree)
         if b"--as" in self.options:
-            return readings.shown(source.files, self.service, self.kind, self.options[b"--as"], word_text), 0
+            return readings.shown(source.files, self.service, self.kind, self.options[b"--as"], shown_word_text), 0
         if self.command in (b"outcomes", b"graph"):
             services.judge(source.files, self.arguments[:1], self.options)
+            self.facts = tuple(tuple(row) for row in plain_given.facts(self.tables.get(b"--facts", b"")))
         items, modules = stacks.resolve(source.files, self.service, self.kind)
         header = b"%s %s %d modules\n" % (self.service, self.kind, len(modules))
         if self.is_json():
@@ -324,6 +330,12 @@ class Request:
             text += b"%d %s %s %s %s %s\n" % (module.number, word_text(module.path), code, action, *state)
         return text + b"decision %s\n" % decision, status
 
+    def said(self, module):
+        """The codes of a module of which neither a setting, nor a table, nor a line of the returns file tells."""
+        if self.answers == b"any":
+            return set(stacks.CODES)
+        return plain_host.possible(module, self.kind, self.facts)
+
     def known(self, modules):
         """The codes that each module may answer."""
         moment = self.moment()
@@ -358,7 +370,7 @@ class Request:
         returns = tables.returns_of(self.tables.get(b"--returns", b""))
         for position, (name, module) in enumerate(zip(names, modules)):
             is_there = self.there is None or module.path in self.there
-            known[position] = known[position] or returns.get(name, set(stacks.CODES)) if is_there else {b"module_unknown"}
+            known[position] = known[position] or returns.get(name) or self.said(module) if is_there else {b"module_unknown"}
         return self.with_settings(names, modules, known)
 
     def with_settings(self, names, modules, known):

@@ -13,13 +13,12 @@ ghost use Rattle.pam_facts.specs.settings.Settings.{setting_view};
 use crate::sides::{Side, Sides};
 use pam_codes::CodeSet;
 use pam_compare::Matching;
-use pam_conf::{Kind, Module, Stack};
+use pam_conf::{Kind, Module, NameList, Stack};
 use pam_facts::known::name_of_path;
 use pam_facts::settings::Setting;
 use pam_facts::{is_there, replace_codes};
 use pam_paths::Known;
 use pam_tables::ReturnTable;
-use pam_text::Texts;
 use std::alloc::{AllocError, Global};
 
 /// Whether a setting sets codes for the modules of a name.
@@ -55,7 +54,7 @@ fn codes_listed(returns: Option<&ReturnTable<'_>>, name: &[u8]) -> Option<CodeSe
 }
 
 /// The codes that are set for a module, or else those of its line, if it is there.
-fn codes_told(sides: &Sides<'_, '_>, there: Option<&Texts>, module: &Module) -> Option<CodeSet>
+fn codes_told(sides: &Sides<'_, '_>, there: Option<&NameList>, module: &Module) -> Option<CodeSet>
     ensures codes { let known = sides_view sides.now in
         result ≡ codes_told known.returns known.settings (option_map (λ t. t.now) there.entry) (module_text «module».now) }
     ensures some { IfSome result (λ codes. codes ≢ []) }
@@ -74,7 +73,7 @@ fn codes_told(sides: &Sides<'_, '_>, there: Option<&Texts>, module: &Module) -> 
 #[tactic(auto, unfolding(crate::specs::Known::told_at))]
 fn told_at(
     sides: &Sides<'_, '_>,
-    there: Option<&Texts>,
+    there: Option<&NameList>,
     stack: &Stack,
     number: usize,
 ) -> Option<CodeSet>
@@ -86,7 +85,7 @@ fn told_at(
 }
 
 /// Sets the codes of the modules for which codes are set, or that have a line in the returns file.
-fn add_told(sides: &Sides<'_, '_>, there: Option<&Texts>, stack: &Stack, known: &mut Known)
+fn add_told(sides: &Sides<'_, '_>, there: Option<&NameList>, stack: &Stack, known: &mut Known)
     ensures { let told = sides_view sides.now in
         (base : ℕ → List ℕ) → Allows (module_count stack.now) known.old base → Allows (module_count stack.now) known.new
         (λ number. unwrap_or (told_at told.returns told.settings (option_map (λ t. t.now) there.entry) stack.now number) (base number)) }

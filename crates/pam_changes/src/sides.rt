@@ -1,16 +1,15 @@
 //! The two configurations that are compared.
 
-use pam_conf::Files;
+use pam_conf::{Files, NameList};
 use pam_facts::Facts;
 use pam_facts::settings::Setting;
 use pam_tables::ReturnTable;
-use pam_text::Texts;
 
 /// A configuration, and the paths at which a module is there, as its rules write them; `None` if that is not known.
 #[derive(Clone, Copy)]
 pub struct Side<'x> {
     pub files: &'x Files,
-    pub there: Option<&'x Texts>,
+    pub there: Option<&'x NameList>,
 }
 
 /// Two configurations, and what is known of the answers of their modules.

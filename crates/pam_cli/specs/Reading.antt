@@ -13,6 +13,7 @@ use Rattle.pam_report.specs.declared.inputs.Inputs.{Inputs}
 use Rattle.pam_report.specs.declared.inputs.Inputs.TheVariants as inputs
 use Rattle.pam_report.specs.declared.inputs.TableFile.{TableFile}
 use Rattle.pam_report.specs.declared.inputs.TableFiles.{TableFiles}
+use Rattle.pam_words.specs.Wanted.{facts_named}
 use Rattle.pam_words.specs.declared.wanted.CompareFiles.{CompareFiles}
 use Rattle.pam_words.specs.declared.wanted.ConfSource.{ConfSource}
 use Rattle.pam_words.specs.declared.wanted.ConfSource.TheVariants.{Root}
@@ -94,7 +95,8 @@ AreKnownTables told source named tables =
 
 abbrev pub HasKnownTables : Told → ConfSource → KnowledgeSource → Inputs → Type 0
 HasKnownTables told source named (inputs.Paths files given) =
-    AreKnownTables told source named given.tables × IsFile told (option_copied named.returns) given.returns
+    AreKnownTables told source named given.tables × IsFile told (option_copied (facts_named named.answers)) given.facts
+    × IsFile told (option_copied named.returns) given.returns
 HasKnownTables told source named given = ⊤
 
 -- no folder of modules is named: it is not known which modules are there, unless the source is a system, which may have such folders
@@ -118,7 +120,8 @@ HasSides told old new named (inputs.Sides old_side new_side facts returns) =
     × IsFile told (option_copied named.facts) facts × IsFile told (option_copied named.returns) returns
 HasSides told old new named given = ⊤
 
--- a configuration, the tables and the returns file that give the answers of its modules, and whether it is known which modules are there
+-- a configuration, the tables, the facts file and the returns file that give the answers of its modules, and whether it is known which
+-- modules are there
 abbrev pub HasKnowledge : Told → List (Text × Text) → ConfSource → KnowledgeSource → Inputs → Type 0
 HasKnowledge told candidates source named given =
     HasFiles told candidates source given × HasKnownTables told source named given × HasModules source named.modules.items (there_given given)
@@ -162,11 +165,11 @@ abbrev pub IsOfTables : TableNames → List ℕ → Type 0
 IsOfTables named name =
     IsNamed (option_copied named.groups) name ⊎ IsNamed (option_copied named.access) name ⊎ IsNamed (option_copied named.time) name
 
--- a name of the source, one of the folders of modules or of the tables, or the returns file
+-- a name of the source, one of the folders of modules or of the tables, or the facts file or the returns file
 abbrev pub IsOfKnowledge : ConfSource → KnowledgeSource → List ℕ → Type 0
 IsOfKnowledge source named name =
     IsInSource source name ⊎ Member name (map (λ folder. folder.now) named.modules.items) ⊎ IsOfTables named.tables name
-    ⊎ IsNamed (option_copied named.returns) name
+    ⊎ IsNamed (option_copied (facts_named named.answers)) name ⊎ IsNamed (option_copied named.returns) name
 
 -- the facts file or the accept file, one of the tables, or one of the folders of modules
 abbrev pub IsOfCheck : CheckFiles → List ℕ → Type 0

@@ -6,7 +6,7 @@ ghost use Rattle.pam_cli.specs.Reading.{IsNamed, has_user, IsReading, IsSide};
 ghost use Rattle.pam_cli.specs.inner.Reading.{IsAccessReading, IsCheckReading, IsGivenReading, IsKnowledgeReading, IsKnownReading};
 ghost use Rattle.pam_cli.specs.inner.Reading.{IsCompareReading, IsOfSide, IsRightFile};
 ghost use Rattle.pam_cli.specs.Sources.{IsUnread};
-ghost use Rattle.pam_words.specs.Wanted.{candidate_view};
+ghost use Rattle.pam_words.specs.Wanted.{candidate_view, facts_named};
 
 mod files;
 mod module_paths;
@@ -19,7 +19,9 @@ use files::named_file;
 use modules::modules_there;
 use pam_conf::Files;
 use pam_report::{CheckInputs, InputError, Inputs, KnowledgeInputs, SideInputs};
-use pam_words::{Candidate, CheckFiles, CompareFiles, ConfSource, KnowledgeSource, Request, Task};
+use pam_words::{
+    Answers, Candidate, CheckFiles, CompareFiles, ConfSource, KnowledgeSource, Request, Task,
+};
 use sources::{Configuration, source_files};
 use std::alloc::Global;
 use tables::{LookedUp, table_files};
@@ -164,8 +166,25 @@ fn looked_up(named: &KnowledgeSource<'_>) -> LookedUp
     }
 }
 
-/// Looks for the modules of a configuration, and reads the tables of its system or those that are named, and the returns file that is
-/// named.
+/// Reads the facts file, if it is asked what is possible and the file is named, and then the returns file, if that is named.
+fn possible_files<S: System>(
+    system: &S,
+    alloc: Global,
+    answers: Answers<'_>,
+    returns: Option<&str>,
+) -> Result<(Option<Vec<u8>>, Option<Vec<u8>>), InputError>
+    ensures ok { IfOk result (λ given. IsRightFile (S.told system.now) (facts_named answers.entry) given.0
+        × IsRightFile (S.told system.now) returns.entry given.1) }
+    ensures error { IfErr result (IsUnread (λ n. IsNamed (option_copied (facts_named answers.entry)) n ⊎ IsNamed (option_copied returns.entry) n)) }
+{
+    match answers {
+        Answers::Any => optional_files(system, alloc, None, returns),
+        Answers::Possible { facts } => optional_files(system, alloc, facts, returns),
+    }
+}
+
+/// Looks for the modules of a configuration, and reads the tables of its system or those that are named, and the facts file and the
+/// returns file that are named. Where any code is possible, no facts file is read.
 fn known_inputs<S: System>(
     system: &S,
     alloc: Global,
@@ -177,11 +196,12 @@ fn known_inputs<S: System>(
 {
     let there = modules_there(system, alloc, source, &named.modules, files)?;
     let tables = table_files(system, alloc, source, named.tables, looked_up(named))?;
-    let returns = optional_file(system, alloc, named.returns)?;
+    let others = possible_files(system, alloc, named.answers, named.returns)?;
     Ok(KnowledgeInputs {
         there,
         tables,
-        returns,
+        facts: others.0,
+        returns: others.1,
     })
 }
 

@@ -105,6 +105,30 @@ bad_arguments =
       mending = codes "write what is missing, as the manual page of the module has it.";
     }
 
+unfoldable pub not_counted : Explanation
+not_counted =
+    record {
+      number = codes "S22";
+      name = codes "NotCounted";
+      level = Warning;
+      meaning =
+          codes "A rule of pam_faillock counts failures, by its argument authfail, and no run\n"
+          ++ codes "of the auth stack asks one with preauth or authsucc, which refuses who failed\n"
+          ++ codes "too often. Or a rule refuses them, and no run asks one that counts. In both\n"
+          ++ codes "cases nobody is locked out, so passwords can be tried without end.";
+      example =
+          codes "# login\n"
+          ++ codes "auth required pam_faillock.so preauth\n"
+          ++ codes "auth required pam_unix.so\n"
+          ++ codes "account required pam_unix.so";
+      linux_pam =
+          codes "pam_faillock(8): of preauth, authfail and authsucc the last one\n"
+          ++ codes "says what the rule does, and without one it is preauth.";
+      mending =
+          codes "as in its manual page: preauth before the modules that check, and\n"
+          ++ codes "authfail where their failure leads, as after a sufficient pam_unix.so.";
+    }
+
 unfoldable pub weak_hash : Explanation
 weak_hash =
     record {
@@ -128,4 +152,4 @@ weak_hash =
 
 -- THE ROWS, in the order of their numbers
 abbrev pub of_arguments : List Explanation
-of_arguments = unknown_argument ∷ longer_word ∷ argument_of_other_kind ∷ bad_value ∷ bad_arguments ∷ weak_hash ∷ []
+of_arguments = unknown_argument ∷ longer_word ∷ argument_of_other_kind ∷ bad_value ∷ bad_arguments ∷ not_counted ∷ weak_hash ∷ []

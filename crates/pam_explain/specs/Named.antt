@@ -1,7 +1,7 @@
--- Faults of what the words name: services, candidates, and files that are read or written.
+-- Faults of what the words name: services, candidates, answers, and files that are read or written.
 use Rattle.std.specs.Prelude.{List, [], ◌∷◌, ◌++◌, codes}
 use Rattle.pam_explain.specs.Explanation.{Explanation}
-use Rattle.pam_explain.specs.Shared.{fault_of_run}
+use Rattle.pam_explain.specs.Shared.{fault_of_run, fault_of_words}
 use Rattle.pam_explain.specs.declared.explanation.Level.TheVariants.{Error}
 
 -- SERVICES AND CANDIDATES
@@ -51,6 +51,24 @@ unused_candidate =
           ++ codes "service that reads it. check without a SERVICE looks at all of them.";
     }
 
+-- ANSWERS
+
+unfoldable pub answers_name : Explanation
+answers_name =
+    record {
+      number = codes "U20";
+      name = codes "AnswersName";
+      level = Error;
+      meaning =
+          codes "The word after --answers is neither any nor possible.";
+      example =
+          codes "$ pamcheck outcomes login auth --dir . --answers all";
+      linux_pam = fault_of_words;
+      mending =
+          codes "write any, for all 31 codes of each module of which nothing else\n"
+          ++ codes "tells, or possible, for those that pamcheck facts and a facts file leave.";
+    }
+
 -- READS AND WRITES
 
 unfoldable pub failed_read : Explanation
@@ -90,4 +108,4 @@ failed_write =
 
 -- THE ROWS, in the order of their numbers
 abbrev pub of_named : List Explanation
-of_named = no_such_service ∷ unused_candidate ∷ failed_read ∷ failed_write ∷ []
+of_named = no_such_service ∷ unused_candidate ∷ answers_name ∷ failed_read ∷ failed_write ∷ []

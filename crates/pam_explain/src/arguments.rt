@@ -132,6 +132,37 @@ fn bad_arguments() -> Explanation
     }
 }
 
+#[tactic(auto, unfolding(crate::specs::Arguments::not_counted))]
+fn not_counted() -> Explanation
+    ensures { explanation_view result ≡ spec.not_counted }
+{
+    Explanation {
+        number: "S22",
+        name: "NotCounted",
+        level: Level::Warning,
+        meaning: concat!(
+            "A rule of pam_faillock counts failures, by its argument authfail, and no run\n",
+            "of the auth stack asks one with preauth or authsucc, which refuses who failed\n",
+            "too often. Or a rule refuses them, and no run asks one that counts. In both\n",
+            "cases nobody is locked out, so passwords can be tried without end."
+        ),
+        example: concat!(
+            "# login\n",
+            "auth required pam_faillock.so preauth\n",
+            "auth required pam_unix.so\n",
+            "account required pam_unix.so"
+        ),
+        linux_pam: concat!(
+            "pam_faillock(8): of preauth, authfail and authsucc the last one\n",
+            "says what the rule does, and without one it is preauth."
+        ),
+        mending: concat!(
+            "as in its manual page: preauth before the modules that check, and\n",
+            "authfail where their failure leads, as after a sufficient pam_unix.so."
+        ),
+    }
+}
+
 #[tactic(auto, unfolding(crate::specs::Arguments::weak_hash))]
 fn weak_hash() -> Explanation
     ensures { explanation_view result ≡ spec.weak_hash }
@@ -167,7 +198,8 @@ pub(crate) fn of_arguments(row: usize) -> Option<Explanation>
         2 => argument_of_other_kind(),
         3 => bad_value(),
         4 => bad_arguments(),
-        5 => weak_hash(),
+        5 => not_counted(),
+        6 => weak_hash(),
         _ => return None,
     })
 }

@@ -1,4 +1,4 @@
-//! Faults of what the words name: services, candidates, and files that are read or written.
+//! Faults of what the words name: services, candidates, answers, and files that are read or written.
 
 ghost use Rattle.std.specs.Prelude.{◌≡◌};
 ghost use Rattle.std.specs.List.{slice_get};
@@ -7,7 +7,7 @@ ghost use Rattle.pam_explain.specs.Named as spec;
 ghost use Rattle.pam_explain.specs.Views.{explanation_view};
 
 use crate::explanation::{Explanation, Level};
-use crate::shared::FAULT_OF_RUN;
+use crate::shared::{FAULT_OF_RUN, FAULT_OF_WORDS};
 
 #[tactic(auto, unfolding(crate::specs::Named::no_such_service))]
 fn no_such_service() -> Explanation
@@ -68,6 +68,24 @@ fn unused_candidate() -> Explanation
     }
 }
 
+#[tactic(auto, unfolding(crate::specs::Named::answers_name))]
+fn answers_name() -> Explanation
+    ensures { explanation_view result ≡ spec.answers_name }
+{
+    Explanation {
+        number: "U20",
+        name: "AnswersName",
+        level: Level::Error,
+        meaning: "The word after --answers is neither any nor possible.",
+        example: "$ pamcheck outcomes login auth --dir . --answers all",
+        linux_pam: FAULT_OF_WORDS,
+        mending: concat!(
+            "write any, for all 31 codes of each module of which nothing else\n",
+            "tells, or possible, for those that pamcheck facts and a facts file leave."
+        ),
+    }
+}
+
 #[tactic(auto, unfolding(crate::specs::Named::failed_read))]
 fn failed_read() -> Explanation
     ensures { explanation_view result ≡ spec.failed_read }
@@ -116,8 +134,9 @@ pub(crate) fn of_named(row: usize) -> Option<Explanation>
     Some(match row {
         0 => no_such_service(),
         1 => unused_candidate(),
-        2 => failed_read(),
-        3 => failed_write(),
+        2 => answers_name(),
+        3 => failed_read(),
+        4 => failed_write(),
         _ => return None,
     })
 }

@@ -1,10 +1,14 @@
 -- The arguments of a row, and the last row that fits.
-use Rattle.std.proofs.Common.{◌≡◌, ◌∙◌, ◌&&◌, ◌++◌, ℕ, Bool, true, false, List, [], ◌∷◌, Option, Some, None, if◌then◌else◌, length, refl, ap}
+use Rattle.std.proofs.Common.{◌≡◌, ◌∙◌, ◌&&◌, ◌||◌, ◌++◌, ℕ, Bool, true, false, List, [], ◌∷◌, Option, Some, None, if◌then◌else◌, length, refl, ap}
 use Rattle.std.proofs.Common.{Bor, ◌==◌, arith, slice_get}
 use Rattle.std.proofs.lemmas.Bool.{ne_eqb}
-use Rattle.std.specs.List.{list_all}
-use Rattle.pam_facts.specs.Facts.{is_unknown_alone}
-use Rattle.pam_facts.specs.Fitting.{last_fact}
+use Rattle.std.specs.List.{list_all, list_any}
+use Rattle.std.specs.Option.{option_map_or}
+use Rattle.pam_facts.specs.Facts.{is_unknown_alone, unknown}
+use Rattle.pam_facts.specs.Fitting.{fits, last_fact}
+use Rattle.pam_facts.specs.Laws.{NoRowIsUnknown}
+use Rattle.pam_facts.specs.Options.{arguments_read}
+use Rattle.pam_facts.specs.Paths.{module_name}
 use Rattle.pam_facts.specs.Rows.{Row}
 use Rattle.pam_facts.specs.Views.{texts_of}
 use Rattle.pam_facts.specs.declared.row.Fact.{Fact}
@@ -49,3 +53,18 @@ again fits fact (row ∷ rows) =
 
 pub twice : (fits : Row → Bool) (fact : Fact) (rows : List Row) → last_fact fits fact (rows ++ rows) ≡ last_fact fits fact rows
 twice fits fact rows = joined fits fact rows rows ∙ again fits fact rows
+
+-- where no row fits, no row's fact counts
+none_fits : (fits_module : Row → Bool) (fact : Fact) (rows : List Row) → list_any fits_module rows ≡ false → last_fact fits_module fact rows ≡ fact
+none_fits fits_module fact [] h = refl
+none_fits fits_module fact (row ∷ rows) h =
+    elim (fits_module row) as (λ (t : Bool). (t || list_any fits_module rows) ≡ false
+    → last_fact fits_module (if t then row.fact else fact) rows ≡ fact) [ true ↦ λ e. absurd (cc) | false ↦ λ e. none_fits fits_module fact rows e ] h
+
+pub no_row_is_unknown : NoRowIsUnknown
+no_row_is_unknown rows path arguments h = go (module_name path) h
+  where
+    go : (name : Option (List ℕ)) → option_map_or (λ n. list_any (fits n (arguments_read n arguments)) rows) name false ≡ false →
+        option_map_or (λ n. last_fact (fits n (arguments_read n arguments)) unknown rows) name unknown ≡ unknown
+    go None none = refl
+    go (Some n) none = none_fits (fits n (arguments_read n arguments)) unknown rows none

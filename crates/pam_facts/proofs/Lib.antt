@@ -11,4 +11,5 @@ pub mod OptionSteps
 pub mod Replaced
 pub mod RowSteps
 pub mod TableSteps
+pub mod ThereSteps
 pub mod WordSteps

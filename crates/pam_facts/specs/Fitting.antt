@@ -1,5 +1,5 @@
 -- The row that counts for a module.
-use Rattle.std.specs.Prelude.{ℕ, ◌&&◌, Bool, nat_eq, List, [], ◌∷◌, codes, if◌then◌else◌}
+use Rattle.std.specs.Prelude.{ℕ, ◌&&◌, Bool, false, nat_eq, List, [], ◌∷◌, codes, if◌then◌else◌}
 use Rattle.std.specs.List.{ends_with, list_all, list_any, starts_with}
 use Rattle.std.specs.Option.{option_map_or}
 use Rattle.std.specs.Str.{bytes_eq}
@@ -25,3 +25,7 @@ last_fact fits_module fact (row ∷ rows) = last_fact fits_module (if fits_modul
 -- WHAT IS KNOWN of the module at a path, for the arguments of its rule that it reads
 abbrev pub fact_of : List Row → List ℕ → List (List ℕ) → Fact
 fact_of rows path arguments = option_map_or (λ name. last_fact (fits name (arguments_read name arguments)) unknown rows) (module_name path) unknown
+
+-- WHETHER ANYTHING IS KNOWN of it: some row fits
+abbrev pub has_row : List Row → List ℕ → List (List ℕ) → Bool
+has_row rows path arguments = option_map_or (λ name. list_any (fits name (arguments_read name arguments)) rows) (module_name path) false

@@ -5,8 +5,8 @@ use Rattle.pam_codes.specs.Set.{is_in}
 use Rattle.pam_conf.specs.Stack.{ModuleText}
 use Rattle.pam_conf.specs.declared.rule.Kind.{Kind}
 use Rattle.pam_facts.specs.Answers.{is_there, module_answers}
-use Rattle.pam_facts.specs.Facts.{has_function}
-use Rattle.pam_facts.specs.Fitting.{fact_of, last_fact}
+use Rattle.pam_facts.specs.Facts.{has_function, unknown}
+use Rattle.pam_facts.specs.Fitting.{fact_of, has_row, last_fact}
 use Rattle.pam_facts.specs.Rows.{Row}
 use Rattle.pam_facts.specs.declared.answers.Checks.{Checks}
 use Rattle.pam_facts.specs.declared.answers.Checks.TheVariants.{Fail}
@@ -22,6 +22,11 @@ LastRowCounts =
 -- the same rows once more change nothing
 abbrev pub TwiceIsOnce : Type 0
 TwiceIsOnce = (fits : Row → Bool) (fact : Fact) (rows : List Row) → last_fact fits fact (rows ++ rows) ≡ last_fact fits fact rows
+
+-- a module that no row fits is taken for one of which nothing is known
+abbrev pub NoRowIsUnknown : Type 0
+NoRowIsUnknown =
+    (rows : List Row) (path : List ℕ) (arguments : List (List ℕ)) → has_row rows path arguments ≡ false → fact_of rows path arguments ≡ unknown
 
 -- answers have no success
 pub record HaveNoSuccess (answers : List ℕ) : Type 0 where

@@ -14,9 +14,8 @@ ghost use Rattle.pam_facts.specs.declared.answers.Checks.TheVariants.{Fail, MayS
 use crate::facts::Facts;
 use crate::row::{Class, Fact};
 use pam_codes::{Code, CodeSet};
-use pam_conf::{Kind, Module, Stack};
+use pam_conf::{Kind, Module, NameList, Stack};
 use pam_paths::Known;
-use pam_text::Texts;
 
 /// Whether modules that check who logs in may succeed.
 #[derive(Clone, Copy)]
@@ -80,15 +79,15 @@ fn answers_of(checks: Checks, kind: Kind, fact: Fact) -> CodeSet
     codes
 }
 
-fn has_path(paths: &Texts, path: &[u8]) -> bool
+fn has_path(paths: &NameList, path: &[u8]) -> bool
     ensures { result ≡ list_any (λ known. bytes_eq known path.now) paths.now }
 {
-    paths.iter().any(|known| known == path)
+    paths.has(path)
 }
 
 /// Whether there is a module at a path, as rules write it, among these; `None` if it is not known where modules are, and then each
 /// is taken to be there.
-pub fn is_there(there: Option<&Texts>, path: &[u8]) -> bool
+pub fn is_there(there: Option<&NameList>, path: &[u8]) -> bool
     ensures { result ≡ is_there (option_map (λ t. t.now) there.entry) path.now }
 {
     match there {
@@ -103,7 +102,7 @@ struct Question<'x, 'f> {
     facts: &'x Facts<'f>,
     checks: Checks,
     kind: Kind,
-    there: Option<&'x Texts>,
+    there: Option<&'x NameList>,
 }
 
 impl Question<'_, '_> {
@@ -142,7 +141,7 @@ impl Question<'_, '_> {
 impl Facts<'_> {
     /// The codes that the modules of a stack of this kind can answer. `there` has the paths at which a module is there, as
     /// rules write them; `None` if that is not known, and then each is taken to be there.
-    pub fn answers(&self, stack: &Stack, kind: Kind, there: Option<&Texts>) -> Known
+    pub fn answers(&self, stack: &Stack, kind: Kind, there: Option<&NameList>) -> Known
         ensures { Allows (module_count stack.now) result (answers_at MaySucceed kind self.now (option_map (λ t. t.now) there.entry) stack.now) }
     {
         let question = Question {
@@ -156,7 +155,12 @@ impl Facts<'_> {
 
     /// Like `answers`, where each module that checks who logs in fails. It answers none of `success`, `new_authtok_reqd` and,
     /// unless it may ignore, `ignore`; and `auth_err` if it has no other code.
-    pub fn answers_if_checks_fail(&self, stack: &Stack, kind: Kind, there: Option<&Texts>) -> Known
+    pub fn answers_if_checks_fail(
+        &self,
+        stack: &Stack,
+        kind: Kind,
+        there: Option<&NameList>,
+    ) -> Known
         ensures { Allows (module_count stack.now) result (answers_at Fail kind self.now (option_map (λ t. t.now) there.entry) stack.now) }
     {
         let question = Question {

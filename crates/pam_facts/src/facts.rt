@@ -3,7 +3,7 @@
 ghost use Rattle.std.specs.Prelude.{◌≡◌, map};
 ghost use Rattle.std.specs.List.{list_all, list_any, take_while};
 ghost use Rattle.pam_facts.specs.Error.{Gives};
-ghost use Rattle.pam_facts.specs.Fitting.{argument_fits, fact_of, fits, last_fact};
+ghost use Rattle.pam_facts.specs.Fitting.{argument_fits, fact_of, fits, has_row, last_fact};
 ghost use Rattle.pam_facts.specs.Facts.{unknown};
 ghost use Rattle.pam_facts.specs.Options.{arguments_read, is_option};
 ghost use Rattle.pam_facts.specs.Reading.{known_rows};
@@ -107,6 +107,18 @@ fn last_fact(name: &[u8], arguments: &Texts, rows: &[Row<'_>]) -> Fact
     fact
 }
 
+/// Whether some row fits.
+fn some_fits(name: &[u8], arguments: &Texts, rows: &[Row<'_>]) -> bool
+    ensures { result ≡ list_any (fits name.now (arguments_read name.now arguments.now)) (map row_view rows.now) }
+{
+    for row in rows {
+        if fits(name, arguments, row) {
+            return true;
+        }
+    }
+    false
+}
+
 impl<'a> Facts<'a> {
     /// Reads a facts file after the program's table, or returns the file's first fault. An empty file adds nothing.
     ///
@@ -129,6 +141,17 @@ impl<'a> Facts<'a> {
         match module_name(path) {
             Some(name) => last_fact(name, arguments, &self.rows),
             None => Fact::unknown(),
+        }
+    }
+
+    /// Whether some row fits the module at a path, for the arguments of its rule that it reads. Where none does, nothing is known
+    /// of the module.
+    pub fn has_row(&self, path: &[u8], arguments: &Texts) -> bool
+        ensures { result ≡ has_row self.now path.now arguments.now }
+    {
+        match module_name(path) {
+            Some(name) => some_fits(name, arguments, &self.rows),
+            None => false,
         }
     }
 }

@@ -1,5 +1,5 @@
 //! The codes that the modules of a stack may return for a login, as far as they are known.
-//! Access and time tables give the codes of the modules that read them, and a returns file the codes of the others.
+//! Access and time tables give the codes of the modules that read them, a returns file the codes of others, and facts those of the rest.
 #![tactic(auto)]
 
 mod answers;

@@ -10,11 +10,10 @@ ghost use Rattle.pam_facts.specs.Missing.{if_missing, missing_at, where_there};
 use crate::answers::{is_there, module_unknown};
 use crate::replacing::replace_codes;
 use pam_codes::CodeSet;
-use pam_conf::{Module, Stack};
+use pam_conf::{Module, NameList, Stack};
 use pam_paths::Known;
-use pam_text::Texts;
 
-fn if_missing(there: Option<&Texts>, module: &Module) -> Option<CodeSet>
+fn if_missing(there: Option<&NameList>, module: &Module) -> Option<CodeSet>
     ensures codes { result ≡ if_missing (option_map (λ t. t.now) there.entry) (module_text «module».now) }
     ensures some { IfSome result (λ codes. codes ≢ []) }
 {
@@ -27,7 +26,7 @@ fn if_missing(there: Option<&Texts>, module: &Module) -> Option<CodeSet>
 
 /// The codes of a module that is not there, by its number.
 #[tactic(auto, unfolding(crate::specs::Missing::missing_at))]
-fn missing_at(there: Option<&Texts>, stack: &Stack, number: usize) -> Option<CodeSet>
+fn missing_at(there: Option<&NameList>, stack: &Stack, number: usize) -> Option<CodeSet>
     ensures codes { result ≡ missing_at (option_map (λ t. t.now) there.entry) stack.now number }
     ensures some { IfSome result (λ codes. codes ≢ []) }
 {
@@ -41,7 +40,7 @@ fn missing_at(there: Option<&Texts>, stack: &Stack, number: usize) -> Option<Cod
 ///
 /// `there` has the paths at which a module is there, as rules write them; `None` if that is not known, and then each is taken to be
 /// there.
-pub fn set_missing(there: Option<&Texts>, stack: &Stack, known: &mut Known)
+pub fn set_missing(there: Option<&NameList>, stack: &Stack, known: &mut Known)
     ensures { (codes : ℕ → List ℕ) → Allows (module_count stack.now) known.old codes
         → Allows (module_count stack.now) known.new (where_there (option_map (λ t. t.now) there.entry) stack.now codes) }
 {

@@ -4,6 +4,7 @@ pub mod Counted
 pub mod CutOff
 pub mod FileNames
 pub mod Foldered
+pub mod Halves
 pub mod Jumping
 pub mod LettingIn
 pub mod Listed

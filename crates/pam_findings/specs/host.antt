@@ -1,6 +1,8 @@
 pub mod Arguments
 pub mod Beside
 pub mod Callers
+pub mod Failing
+pub mod Faillock
 pub mod FileProblems
 pub mod FolderProblems
 pub mod Host

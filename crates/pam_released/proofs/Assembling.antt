@@ -90,8 +90,8 @@ trimmed_pushed text more whole line trimmed front rest last is split cut some pu
 -- PIECES
 
 byte_step : (line start : ℕ) (got piece : List ℕ) (inside : Bool) (b : ℕ) (bs : List ℕ) → numbered_152 line start got piece inside (b ∷ bs) ≡
-    cond (eqb b 10) (numbered_piece start got piece inside (line + 1) (λ s g i. numbered_152 (line + 1) s g [] i bs))
-    (cond (eqb (length got + length piece + 1) 1023) (numbered_piece start got (piece ++ b ∷ []) inside line (λ s g i. numbered_152 line s g [] i bs))
+    cond (eqb b 10) (numbered_piece start got piece true inside (line + 1) (λ s g i. numbered_152 (line + 1) s g [] i bs))
+    (cond (eqb (length got + length piece + 1) 1023) (numbered_piece start got (piece ++ b ∷ []) false inside line (λ s g i. numbered_152 line s g [] i bs))
     (numbered_152 line start got (piece ++ b ∷ []) inside bs))
 unfolding numbered_152
 byte_step line start got [] inside b bs = refl
@@ -99,32 +99,32 @@ byte_step line start got (p ∷ piece) inside b bs = refl
 
 feed_step : (line start : ℕ) (got piece : List ℕ) (inside : Bool) (b : ℕ) (bs : List ℕ) → eqb b 10 ≡ true →
     numbered_152 line start got piece inside (b ∷ bs) ≡
-    numbered_piece start got piece inside (line + 1) (λ s g i. numbered_152 (line + 1) s g [] i bs)
+    numbered_piece start got piece true inside (line + 1) (λ s g i. numbered_152 (line + 1) s g [] i bs)
 feed_step line start got piece inside b bs h =
     byte_step line start got piece inside b bs
-    ∙ ap (λ (t : Bool). cond t (numbered_piece start got piece inside (line + 1) (λ s g i. numbered_152 (line + 1) s g [] i bs))
-    (cond (eqb (length got + length piece + 1) 1023) (numbered_piece start got (piece ++ b ∷ []) inside line (λ s g i. numbered_152 line s g [] i bs))
+    ∙ ap (λ (t : Bool). cond t (numbered_piece start got piece true inside (line + 1) (λ s g i. numbered_152 (line + 1) s g [] i bs))
+    (cond (eqb (length got + length piece + 1) 1023) (numbered_piece start got (piece ++ b ∷ []) false inside line (λ s g i. numbered_152 line s g [] i bs))
     (numbered_152 line start got (piece ++ b ∷ []) inside bs))) h
 
 full_step : (line start : ℕ) (got piece : List ℕ) (inside : Bool) (b : ℕ) (bs : List ℕ) → eqb b 10 ≡ false → length got + length piece + 1 ≡ 1023 →
     numbered_152 line start got piece inside (b ∷ bs) ≡
-    numbered_piece start got (piece ++ b ∷ []) inside line (λ s g i. numbered_152 line s g [] i bs)
+    numbered_piece start got (piece ++ b ∷ []) false inside line (λ s g i. numbered_152 line s g [] i bs)
 full_step line start got piece inside b bs h e =
     byte_step line start got piece inside b bs
-    ∙ ap (λ (t : Bool). cond t (numbered_piece start got piece inside (line + 1) (λ s g i. numbered_152 (line + 1) s g [] i bs))
-    (cond (eqb (length got + length piece + 1) 1023) (numbered_piece start got (piece ++ b ∷ []) inside line (λ s g i. numbered_152 line s g [] i bs))
+    ∙ ap (λ (t : Bool). cond t (numbered_piece start got piece true inside (line + 1) (λ s g i. numbered_152 (line + 1) s g [] i bs))
+    (cond (eqb (length got + length piece + 1) 1023) (numbered_piece start got (piece ++ b ∷ []) false inside line (λ s g i. numbered_152 line s g [] i bs))
     (numbered_152 line start got (piece ++ b ∷ []) inside bs))) h
-    ∙ ap (λ (t : Bool). cond t (numbered_piece start got (piece ++ b ∷ []) inside line (λ s g i. numbered_152 line s g [] i bs))
+    ∙ ap (λ (t : Bool). cond t (numbered_piece start got (piece ++ b ∷ []) false inside line (λ s g i. numbered_152 line s g [] i bs))
     (numbered_152 line start got (piece ++ b ∷ []) inside bs)) (eq-eqb (length got + length piece + 1) 1023 e)
 
 more_step : (line start : ℕ) (got piece : List ℕ) (inside : Bool) (b : ℕ) (bs : List ℕ) → eqb b 10 ≡ false → (length got + length piece + 1 ≡ 1023 → ⊥) →
     numbered_152 line start got piece inside (b ∷ bs) ≡ numbered_152 line start got (piece ++ b ∷ []) inside bs
 more_step line start got piece inside b bs h e =
     byte_step line start got piece inside b bs
-    ∙ ap (λ (t : Bool). cond t (numbered_piece start got piece inside (line + 1) (λ s g i. numbered_152 (line + 1) s g [] i bs))
-    (cond (eqb (length got + length piece + 1) 1023) (numbered_piece start got (piece ++ b ∷ []) inside line (λ s g i. numbered_152 line s g [] i bs))
+    ∙ ap (λ (t : Bool). cond t (numbered_piece start got piece true inside (line + 1) (λ s g i. numbered_152 (line + 1) s g [] i bs))
+    (cond (eqb (length got + length piece + 1) 1023) (numbered_piece start got (piece ++ b ∷ []) false inside line (λ s g i. numbered_152 line s g [] i bs))
     (numbered_152 line start got (piece ++ b ∷ []) inside bs))) h
-    ∙ ap (λ (t : Bool). cond t (numbered_piece start got (piece ++ b ∷ []) inside line (λ s g i. numbered_152 line s g [] i bs))
+    ∙ ap (λ (t : Bool). cond t (numbered_piece start got (piece ++ b ∷ []) false inside line (λ s g i. numbered_152 line s g [] i bs))
     (numbered_152 line start got (piece ++ b ∷ []) inside bs)) (ne_eqb (length got + length piece + 1) 1023 e)
 
 pushed_length : (piece : List ℕ) (b : ℕ) → length (piece ++ b ∷ []) ≡ length piece + 1
@@ -140,24 +140,24 @@ feeds_later b bs h = ap (λ (t : Bool). cond (not t) (1 + prefix_len (λ c. not 
 -- the piece fills the buffer
 full : (line start : ℕ) (got piece : List ℕ) (inside : Bool) (n : ℕ) (bytes : List ℕ) → suc n ≤ prefix_len (λ b. not (eqb b 10)) bytes →
     length got + length piece + suc n ≡ 1023 → numbered_152 line start got piece inside bytes ≡
-    numbered_piece start got (piece ++ take (suc n) bytes) inside line (λ s g i. numbered_152 line s g [] i (drop (suc n) bytes))
+    numbered_piece start got (piece ++ take (suc n) bytes) false inside line (λ s g i. numbered_152 line s g [] i (drop (suc n) bytes))
 full line start got piece inside n [] low e = absurd (omega (arith, low))
 full line start got piece inside zero (b ∷ bs) low e =
     elim (eqb b 10) as (λ (t : Bool). eqb b 10 ≡ t → numbered_152 line start got piece inside (b ∷ bs) ≡
-    numbered_piece start got (piece ++ b ∷ []) inside line (λ s g i. numbered_152 line s g [] i bs)) [
+    numbered_piece start got (piece ++ b ∷ []) false inside line (λ s g i. numbered_152 line s g [] i bs)) [
       | true ↦ λ h. absurd (let none : prefix_len (λ c. not (eqb c 10)) (b ∷ bs) ≡ 0 = feeds_first b bs h in omega (arith, none, low))
       | false ↦ λ h. full_step line start got piece inside b bs h (omega (arith, e))
     ] refl
 full line start got piece inside (suc n) (b ∷ bs) low e =
     elim (eqb b 10) as (λ (t : Bool). eqb b 10 ≡ t → numbered_152 line start got piece inside (b ∷ bs) ≡
-    numbered_piece start got (piece ++ b ∷ take (suc n) bs) inside line (λ s g i. numbered_152 line s g [] i (drop (suc n) bs))) [
+    numbered_piece start got (piece ++ b ∷ take (suc n) bs) false inside line (λ s g i. numbered_152 line s g [] i (drop (suc n) bs))) [
       | true ↦ λ h. absurd (let none : prefix_len (λ c. not (eqb c 10)) (b ∷ bs) ≡ 0 = feeds_first b bs h in omega (arith, none, low))
       | false ↦ λ h.
           let later : prefix_len (λ c. not (eqb c 10)) (b ∷ bs) ≡ 1 + prefix_len (λ c. not (eqb c 10)) bs = feeds_later b bs h in
           let longer : length (piece ++ b ∷ []) ≡ length piece + 1 = pushed_length piece b in
           more_step line start got piece inside b bs h (λ f. absurd (omega (arith, e, f)))
           ∙ full line start got (piece ++ b ∷ []) inside n bs (omega (arith, low, later)) (omega (arith, e, longer))
-          ∙ ap (λ (r : List ℕ). numbered_piece start got r inside line (λ s g i. numbered_152 line s g [] i (drop (suc n) bs)))
+          ∙ ap (λ (r : List ℕ). numbered_piece start got r false inside line (λ s g i. numbered_152 line s g [] i (drop (suc n) bs)))
           (append_assoc piece (b ∷ []) (take (suc n) bs))
     ] refl
 
@@ -165,17 +165,17 @@ full line start got piece inside (suc n) (b ∷ bs) low e =
 fed : (line start : ℕ) (got piece : List ℕ) (inside : Bool) (bytes : List ℕ) →
     (length got < 1023 → length got + length piece + prefix_len (λ b. not (eqb b 10)) bytes < 1023) →
     (drop (prefix_len (λ b. not (eqb b 10)) bytes) bytes ≡ [] → ⊥) → numbered_152 line start got piece inside bytes ≡
-    numbered_piece start got (piece ++ take (prefix_len (λ b. not (eqb b 10)) bytes) bytes) inside (line + 1)
+    numbered_piece start got (piece ++ take (prefix_len (λ b. not (eqb b 10)) bytes) bytes) true inside (line + 1)
     (λ s g i. numbered_152 (line + 1) s g [] i (drop 1 (drop (prefix_len (λ b. not (eqb b 10)) bytes) bytes)))
 fed line start got piece inside [] fits some = absurd (some refl)
 fed line start got piece inside (b ∷ bs) fits some =
     elim (eqb b 10) as (λ (t : Bool). eqb b 10 ≡ t → numbered_152 line start got piece inside (b ∷ bs) ≡
-    numbered_piece start got (piece ++ take (prefix_len (λ c. not (eqb c 10)) (b ∷ bs)) (b ∷ bs)) inside (line + 1)
+    numbered_piece start got (piece ++ take (prefix_len (λ c. not (eqb c 10)) (b ∷ bs)) (b ∷ bs)) true inside (line + 1)
     (λ s g i. numbered_152 (line + 1) s g [] i (drop 1 (drop (prefix_len (λ c. not (eqb c 10)) (b ∷ bs)) (b ∷ bs))))) [
       | true ↦ λ h.
           feed_step line start got piece inside b bs h
-          ∙ ap (λ (r : List ℕ). numbered_piece start got r inside (line + 1) (λ s g i. numbered_152 (line + 1) s g [] i bs)) (sym (append-nil piece))
-          ∙ ap (λ (k : ℕ). numbered_piece start got (piece ++ take k (b ∷ bs)) inside (line + 1)
+          ∙ ap (λ (r : List ℕ). numbered_piece start got r true inside (line + 1) (λ s g i. numbered_152 (line + 1) s g [] i bs)) (sym (append-nil piece))
+          ∙ ap (λ (k : ℕ). numbered_piece start got (piece ++ take k (b ∷ bs)) true inside (line + 1)
           (λ s g i. numbered_152 (line + 1) s g [] i (drop 1 (drop k (b ∷ bs))))) (sym (feeds_first b bs h))
       | false ↦ λ h.
           let later : prefix_len (λ c. not (eqb c 10)) (b ∷ bs) ≡ suc (prefix_len (λ c. not (eqb c 10)) bs) =
@@ -184,29 +184,29 @@ fed line start got piece inside (b ∷ bs) fits some =
           more_step line start got piece inside b bs h (λ f. absurd (let low : length got < 1023 = omega (arith, f) in omega (arith, f, later, fits low)))
           ∙ fed line start got (piece ++ b ∷ []) inside bs (λ low. omega (arith, longer, later, fits low))
           (λ e. some (ap (λ (k : ℕ). drop k (b ∷ bs)) later ∙ e))
-          ∙ ap (λ (r : List ℕ). numbered_piece start got r inside (line + 1)
+          ∙ ap (λ (r : List ℕ). numbered_piece start got r true inside (line + 1)
           (λ s g i. numbered_152 (line + 1) s g [] i (drop 1 (drop (prefix_len (λ c. not (eqb c 10)) bs) bs))))
           (append_assoc piece (b ∷ []) (take (prefix_len (λ c. not (eqb c 10)) bs) bs))
-          ∙ ap (λ (k : ℕ). numbered_piece start got (piece ++ take k (b ∷ bs)) inside (line + 1)
+          ∙ ap (λ (k : ℕ). numbered_piece start got (piece ++ take k (b ∷ bs)) true inside (line + 1)
           (λ s g i. numbered_152 (line + 1) s g [] i (drop 1 (drop k (b ∷ bs))))) (sym later)
     ] refl
 
 last_step : (line start : ℕ) (got : List ℕ) (p : ℕ) (piece : List ℕ) (inside : Bool) → numbered_152 line start got (p ∷ piece) inside [] ≡
-    numbered_piece start got ((p ∷ piece) ++ []) inside (line + 1) (λ s g i. numbered_152 (line + 1) s g [] i [])
+    numbered_piece start got ((p ∷ piece) ++ []) false inside (line + 1) (λ s g i. numbered_152 (line + 1) s g [] i [])
 unfolding numbered_152
-last_step line start got p piece inside = ap (λ (r : List ℕ). numbered_piece start got r inside (line + 1) (λ s g i. numbered_end i))
+last_step line start got p piece inside = ap (λ (r : List ℕ). numbered_piece start got r false inside (line + 1) (λ s g i. numbered_end i))
     (sym (append-nil (p ∷ piece)))
 
 -- the file ends with the piece
 ended : (line start : ℕ) (got : List ℕ) (p : ℕ) (piece : List ℕ) (inside : Bool) (bytes : List ℕ) →
     (length got < 1023 → length got + length (p ∷ piece) + prefix_len (λ b. not (eqb b 10)) bytes < 1023) →
     drop (prefix_len (λ b. not (eqb b 10)) bytes) bytes ≡ [] → numbered_152 line start got (p ∷ piece) inside bytes ≡
-    numbered_piece start got ((p ∷ piece) ++ take (prefix_len (λ b. not (eqb b 10)) bytes) bytes) inside (line + 1)
+    numbered_piece start got ((p ∷ piece) ++ take (prefix_len (λ b. not (eqb b 10)) bytes) bytes) false inside (line + 1)
     (λ s g i. numbered_152 (line + 1) s g [] i [])
 ended line start got p piece inside [] fits none = last_step line start got p piece inside
 ended line start got p piece inside (b ∷ bs) fits none =
     elim (eqb b 10) as (λ (t : Bool). eqb b 10 ≡ t → numbered_152 line start got (p ∷ piece) inside (b ∷ bs) ≡
-    numbered_piece start got ((p ∷ piece) ++ take (prefix_len (λ c. not (eqb c 10)) (b ∷ bs)) (b ∷ bs)) inside (line + 1)
+    numbered_piece start got ((p ∷ piece) ++ take (prefix_len (λ c. not (eqb c 10)) (b ∷ bs)) (b ∷ bs)) false inside (line + 1)
     (λ s g i. numbered_152 (line + 1) s g [] i [])) [
       | true ↦ λ h. absurd (let left : b ∷ bs ≡ [] = sym (ap (λ (k : ℕ). drop k (b ∷ bs)) (feeds_first b bs h)) ∙ none in cc)
       | false ↦ λ h.
@@ -217,9 +217,9 @@ ended line start got p piece inside (b ∷ bs) fits none =
           (λ f. absurd (let low : length got < 1023 = omega (arith, f) in omega (arith, f, later, fits low)))
           ∙ ended line start got p (piece ++ b ∷ []) inside bs (λ low. omega (arith, longer, later, fits low))
           (sym (ap (λ (k : ℕ). drop k (b ∷ bs)) later) ∙ none)
-          ∙ ap (λ (r : List ℕ). numbered_piece start got r inside (line + 1) (λ s g i. numbered_152 (line + 1) s g [] i []))
+          ∙ ap (λ (r : List ℕ). numbered_piece start got r false inside (line + 1) (λ s g i. numbered_152 (line + 1) s g [] i []))
           (append_assoc (p ∷ piece) (b ∷ []) (take (prefix_len (λ c. not (eqb c 10)) bs) bs))
-          ∙ ap (λ (k : ℕ). numbered_piece start got ((p ∷ piece) ++ take k (b ∷ bs)) inside (line + 1)
+          ∙ ap (λ (k : ℕ). numbered_piece start got ((p ∷ piece) ++ take k (b ∷ bs)) false inside (line + 1)
           (λ s g i. numbered_152 (line + 1) s g [] i [])) (sym later)
     ] refl
 
@@ -227,11 +227,11 @@ ended line start got p piece inside (b ∷ bs) fits none =
 first_ended : (line start : ℕ) (got : List ℕ) (inside : Bool) (bytes : List ℕ) → (bytes ≡ [] → ⊥) →
     (length got < 1023 → length got + prefix_len (λ b. not (eqb b 10)) bytes < 1023) →
     drop (prefix_len (λ b. not (eqb b 10)) bytes) bytes ≡ [] → numbered_152 line start got [] inside bytes ≡
-    numbered_piece start got (take (prefix_len (λ b. not (eqb b 10)) bytes) bytes) inside (line + 1) (λ s g i. numbered_152 (line + 1) s g [] i [])
+    numbered_piece start got (take (prefix_len (λ b. not (eqb b 10)) bytes) bytes) false inside (line + 1) (λ s g i. numbered_152 (line + 1) s g [] i [])
 first_ended line start got inside [] some fits none = absurd (some refl)
 first_ended line start got inside (b ∷ bs) some fits none =
     elim (eqb b 10) as (λ (t : Bool). eqb b 10 ≡ t → numbered_152 line start got [] inside (b ∷ bs) ≡
-    numbered_piece start got (take (prefix_len (λ c. not (eqb c 10)) (b ∷ bs)) (b ∷ bs)) inside (line + 1)
+    numbered_piece start got (take (prefix_len (λ c. not (eqb c 10)) (b ∷ bs)) (b ∷ bs)) false inside (line + 1)
     (λ s g i. numbered_152 (line + 1) s g [] i [])) [
       | true ↦ λ h. absurd (let left : b ∷ bs ≡ [] = sym (ap (λ (k : ℕ). drop k (b ∷ bs)) (feeds_first b bs h)) ∙ none in cc)
       | false ↦ λ h.
@@ -239,43 +239,43 @@ first_ended line start got inside (b ∷ bs) some fits none =
           feeds_later b bs h ∙ one-add (prefix_len (λ c. not (eqb c 10)) bs) in
           more_step line start got [] inside b bs h (λ f. absurd (let low : length got < 1023 = omega (arith, f) in omega (arith, f, later, fits low)))
           ∙ ended line start got b [] inside bs (λ low. omega (arith, later, fits low)) (sym (ap (λ (k : ℕ). drop k (b ∷ bs)) later) ∙ none)
-          ∙ ap (λ (k : ℕ). numbered_piece start got (take k (b ∷ bs)) inside (line + 1) (λ s g i. numbered_152 (line + 1) s g [] i [])) (sym later)
+          ∙ ap (λ (k : ℕ). numbered_piece start got (take k (b ∷ bs)) false inside (line + 1) (λ s g i. numbered_152 (line + 1) s g [] i [])) (sym later)
     ] refl
 
 -- WHAT `split_piece` GIVES
 
-abbrev pub IsNext : List ℕ → ℕ → Bool → List ℕ → List ℕ → Type 0
-IsNext bytes used whole piece after = (line start : ℕ) (got : List ℕ) (inside : Bool) → length got ≡ used →
-    numbered_152 line start got [] inside bytes ≡ numbered_piece start got piece inside (cond whole (line + 1) line)
+abbrev pub IsNext : List ℕ → ℕ → Bool → Bool → List ℕ → List ℕ → Type 0
+IsNext bytes used fed whole piece after = (line start : ℕ) (got : List ℕ) (inside : Bool) → length got ≡ used →
+    numbered_152 line start got [] inside bytes ≡ numbered_piece start got piece fed inside (cond whole (line + 1) line)
     (λ s g i. numbered_152 (cond whole (line + 1) line) s g [] i after)
 
 pub full_piece : (bytes piece after : List ℕ) (used len n : ℕ) → len ≡ prefix_len (λ b. not (eqb b 10)) bytes → n ≤ len → used + n ≡ 1023 → 0 < n →
-    piece ≡ take n bytes → after ≡ drop n bytes → IsNext bytes used false piece after
+    piece ≡ take n bytes → after ≡ drop n bytes → IsNext bytes used false false piece after
 full_piece bytes piece after used len zero is low e some front back line start got inside same = absurd (omega (arith, some))
 full_piece bytes piece after used len (suc n) is low e some front back line start got inside same =
     full line start got [] inside n bytes (omega (arith, is, low)) (omega (arith, same, e))
-    ∙ ap (λ (r : List ℕ). numbered_piece start got r inside line (λ s g i. numbered_152 line s g [] i (drop (suc n) bytes))) (sym front)
-    ∙ ap (λ (r : List ℕ). numbered_piece start got piece inside line (λ s g i. numbered_152 line s g [] i r)) (sym back)
+    ∙ ap (λ (r : List ℕ). numbered_piece start got r false inside line (λ s g i. numbered_152 line s g [] i (drop (suc n) bytes))) (sym front)
+    ∙ ap (λ (r : List ℕ). numbered_piece start got piece false inside line (λ s g i. numbered_152 line s g [] i r)) (sym back)
 
 pub fed_piece : (bytes piece rest after : List ℕ) (used len : ℕ) → len ≡ prefix_len (λ b. not (eqb b 10)) bytes → (used < 1023 → used + len < 1023) →
-    piece ≡ take len bytes → rest ≡ drop len bytes → (rest ≡ [] → ⊥) → after ≡ drop 1 rest → IsNext bytes used true piece after
+    piece ≡ take len bytes → rest ≡ drop len bytes → (rest ≡ [] → ⊥) → after ≡ drop 1 rest → IsNext bytes used true true piece after
 fed_piece bytes piece rest after used len is fits front back some later line start got inside same =
     fed line start got [] inside bytes (λ low. let own : used < 1023 = omega (arith, same, low) in omega (arith, same, is, fits own))
     (λ e. some (back ∙ ap (λ (k : ℕ). drop k bytes) is ∙ e))
-    ∙ ap (λ (k : ℕ). numbered_piece start got (take k bytes) inside (line + 1)
+    ∙ ap (λ (k : ℕ). numbered_piece start got (take k bytes) true inside (line + 1)
     (λ s g i. numbered_152 (line + 1) s g [] i (drop 1 (drop k bytes)))) (sym is)
-    ∙ ap (λ (r : List ℕ). numbered_piece start got r inside (line + 1) (λ s g i. numbered_152 (line + 1) s g [] i (drop 1 (drop len bytes)))) (sym front)
-    ∙ ap (λ (r : List ℕ). numbered_piece start got piece inside (line + 1) (λ s g i. numbered_152 (line + 1) s g [] i (drop 1 r))) (sym back)
-    ∙ ap (λ (r : List ℕ). numbered_piece start got piece inside (line + 1) (λ s g i. numbered_152 (line + 1) s g [] i r)) (sym later)
+    ∙ ap (λ (r : List ℕ). numbered_piece start got r true inside (line + 1) (λ s g i. numbered_152 (line + 1) s g [] i (drop 1 (drop len bytes)))) (sym front)
+    ∙ ap (λ (r : List ℕ). numbered_piece start got piece true inside (line + 1) (λ s g i. numbered_152 (line + 1) s g [] i (drop 1 r))) (sym back)
+    ∙ ap (λ (r : List ℕ). numbered_piece start got piece true inside (line + 1) (λ s g i. numbered_152 (line + 1) s g [] i r)) (sym later)
 
 pub last_piece : (bytes piece after : List ℕ) (used len : ℕ) → len ≡ prefix_len (λ b. not (eqb b 10)) bytes → (used < 1023 → used + len < 1023) →
-    (bytes ≡ [] → ⊥) → piece ≡ take len bytes → after ≡ drop len bytes → after ≡ [] → IsNext bytes used true piece after
+    (bytes ≡ [] → ⊥) → piece ≡ take len bytes → after ≡ drop len bytes → after ≡ [] → IsNext bytes used false true piece after
 last_piece bytes piece after used len is fits some front back none line start got inside same =
     first_ended line start got inside bytes some (λ low. let own : used < 1023 = omega (arith, same, low) in omega (arith, same, is, fits own))
     (sym (back ∙ ap (λ (k : ℕ). drop k bytes) is) ∙ none)
-    ∙ ap (λ (k : ℕ). numbered_piece start got (take k bytes) inside (line + 1) (λ s g i. numbered_152 (line + 1) s g [] i [])) (sym is)
-    ∙ ap (λ (r : List ℕ). numbered_piece start got r inside (line + 1) (λ s g i. numbered_152 (line + 1) s g [] i [])) (sym front)
-    ∙ ap (λ (r : List ℕ). numbered_piece start got piece inside (line + 1) (λ s g i. numbered_152 (line + 1) s g [] i r)) (sym none)
+    ∙ ap (λ (k : ℕ). numbered_piece start got (take k bytes) false inside (line + 1) (λ s g i. numbered_152 (line + 1) s g [] i [])) (sym is)
+    ∙ ap (λ (r : List ℕ). numbered_piece start got r false inside (line + 1) (λ s g i. numbered_152 (line + 1) s g [] i [])) (sym front)
+    ∙ ap (λ (r : List ℕ). numbered_piece start got piece false inside (line + 1) (λ s g i. numbered_152 (line + 1) s g [] i r)) (sym none)
 
 pub is_nothing : (bs : List ℕ) → eqb (length bs) 0 ≡ true → bs ≡ []
 is_nothing [] h = refl

@@ -10,6 +10,7 @@ use Rattle.pam_codes.specs.declared.error.ControlError.TheVariants.{BadControl}
 use Rattle.pam_released.specs.Control.{released_actions}
 use Rattle.pam_released.specs.Rules.{control_actions}
 use Rattle.pam_released.proofs.ControlNames.{two_ways}
+use Rattle.pam_released.specs.declared.release.Release.{Release}
 
 and_true : (t : Bool) → (t && true) ≡ t
 and_true true = refl
@@ -41,26 +42,28 @@ none_is : (o : Option Pairs) (e : ControlError) → Err e ≡ option_map_or (λ 
 none_is None e h = refl
 none_is (Some ps) e h = absurd (cc)
 
-pub keyword_read : (text : List ℕ) (actions : List Action) → starts_with ◌==◌ text (91 ∷ []) ≡ false → Ok actions ≡ control_of text →
-    actions ≡ control_actions text
-keyword_read [] actions n h = keyword_is (keyword_pairs []) actions (released_actions []) (h ∙ nothing)
-keyword_read (b ∷ bs) actions n h = keyword_is (keyword_pairs (b ∷ bs)) actions (released_actions (b ∷ bs)) (h ∙ bare b bs (opens b bs ∙ n))
+pub keyword_read : (release : Release) (text : List ℕ) (actions : List Action) → starts_with ◌==◌ text (91 ∷ []) ≡ false → Ok actions ≡ control_of text →
+    actions ≡ control_actions release text
+keyword_read release [] actions n h = keyword_is (keyword_pairs []) actions (released_actions release []) (h ∙ nothing)
+keyword_read release (b ∷ bs) actions n h = keyword_is (keyword_pairs (b ∷ bs)) actions (released_actions release (b ∷ bs)) (h ∙ bare b bs (opens b bs ∙ n))
 
 opened : (bs : List ℕ) → keyword_pairs (91 ∷ bs) ≡ None
 unfolding keyword_pairs keywords
 opened bs = refl
 
-by_pairs : (text : List ℕ) → keyword_pairs text ≡ None → released_actions text ≡ control_actions text
-by_pairs text none = sym (ap (λ (o : Option Pairs). option_map_or actions_of o (released_actions text)) none)
+by_pairs : (release : Release) (text : List ℕ) → keyword_pairs text ≡ None → released_actions release text ≡ control_actions release text
+by_pairs release text none = sym (ap (λ (o : Option Pairs). option_map_or actions_of o (released_actions release text)) none)
 
-pub bracket_is_none : (text : List ℕ) → starts_with ◌==◌ text (91 ∷ []) ≡ true → released_actions text ≡ control_actions text
-bracket_is_none [] h = absurd (cc)
-bracket_is_none (b ∷ bs) h = by_pairs (b ∷ bs) (ap (λ (c : ℕ). keyword_pairs (c ∷ bs)) (eqb-true b 91 (opens b bs ∙ h)) ∙ opened bs)
+pub bracket_is_none : (release : Release) (text : List ℕ) → starts_with ◌==◌ text (91 ∷ []) ≡ true →
+    released_actions release text ≡ control_actions release text
+bracket_is_none release [] h = absurd (cc)
+bracket_is_none release (b ∷ bs) h = by_pairs release (b ∷ bs) (ap (λ (c : ℕ). keyword_pairs (c ∷ bs)) (eqb-true b 91 (opens b bs ∙ h)) ∙ opened bs)
 
-pub unread_is_none : (text : List ℕ) (e : ControlError) → Err e ≡ control_of text → released_actions text ≡ control_actions text
-unread_is_none [] e h = by_pairs [] (none_is (keyword_pairs []) e (h ∙ nothing))
-unread_is_none (b ∷ bs) e h =
-    elim (eqb b 91) as (λ (t : Bool). eqb b 91 ≡ t → released_actions (b ∷ bs) ≡ control_actions (b ∷ bs)) [
-      | true ↦ λ k. by_pairs (b ∷ bs) (ap (λ (c : ℕ). keyword_pairs (c ∷ bs)) (eqb-true b 91 k) ∙ opened bs)
-      | false ↦ λ k. by_pairs (b ∷ bs) (none_is (keyword_pairs (b ∷ bs)) e (h ∙ bare b bs k))
+pub unread_is_none : (release : Release) (text : List ℕ) (e : ControlError) → Err e ≡ control_of text →
+    released_actions release text ≡ control_actions release text
+unread_is_none release [] e h = by_pairs release [] (none_is (keyword_pairs []) e (h ∙ nothing))
+unread_is_none release (b ∷ bs) e h =
+    elim (eqb b 91) as (λ (t : Bool). eqb b 91 ≡ t → released_actions release (b ∷ bs) ≡ control_actions release (b ∷ bs)) [
+      | true ↦ λ k. by_pairs release (b ∷ bs) (ap (λ (c : ℕ). keyword_pairs (c ∷ bs)) (eqb-true b 91 k) ∙ opened bs)
+      | false ↦ λ k. by_pairs release (b ∷ bs) (none_is (keyword_pairs (b ∷ bs)) e (h ∙ bare b bs k))
     ] refl

@@ -1,12 +1,12 @@
 -- What names and actions say to released Linux-PAM, which goes by their first letters.
 use Rattle.std.proofs.Common.{◌≡◌, one-add, ◌≤◌, ◌<◌, ◌+◌, ◌&&◌, ◌++◌, ◌∙◌, ℕ, suc, Bool, true, false, not, List, [], ◌∷◌, map, take, drop}
 use Rattle.std.proofs.Common.{length, get_or, cond, eqb, ap, sym, refl, subst, Option, Some, None, Result, Ok, Err, All, arith, codes}
-use Rattle.std.specs.Prelude.{if◌then◌else◌, ◌==◌, ◌*◌, ◌-◌, fold, nat_lt, find}
+use Rattle.std.specs.Prelude.{if◌then◌else◌, ◌==◌, ◌||◌, ◌*◌, ◌%◌, ◌-◌, fold, nat_le, nat_lt, find}
 use Rattle.std.specs.List.{list_all, prefix_len, take_while, position}
-use Rattle.std.specs.Option.{option_map_or}
+use Rattle.std.specs.Option.{option_map, option_map_or}
 use Rattle.std.specs.Char.{to_ascii_lowercase, is_ascii_digit}
 use Rattle.std.specs.Str.{bytes_eq}
-use Rattle.std.proofs.lemmas.Bool.{agree_below, agree_below_at, and_parts, eqb-true, eq-eqb, leb-true, le-ltb, true≢false}
+use Rattle.std.proofs.lemmas.Bool.{agree_below, agree_below_at, and_parts, eqb-true, eq-eqb, leb-true, le-leb, le-ltb, true≢false}
 use lib.Dec.{leb}
 use Rattle.std.proofs.lemmas.Slice.Eq.{bytes_eq-Decides}
 use Rattle.pam_codes.specs.Action.{action_named, decimal_value, is_jump_text}
@@ -22,8 +22,10 @@ use Rattle.pam_codes.specs.declared.subject.Subject.TheVariants.{Named, Incomple
 use Rattle.pam_codes.proofs.CodeNames.{first_code, has_name}
 use Rattle.pam_codes.proofs.CodeSets.{all_codes-within}
 use Rattle.pam_codes.proofs.Jumps.{jump_len}
-use Rattle.pam_released.specs.Control.{action_at, begins, is_space, jump_at, jump_value, name_of}
+use Rattle.pam_released.specs.Control.{action_at, action_of_bits, action_of_int, action_of_number, begins, is_space, jump_at, jump_over, name_of}
 use Rattle.pam_released.specs.Control.{subject_at}
+use Rattle.pam_released.specs.declared.release.Release.{Release}
+use Rattle.pam_released.specs.declared.release.Release.TheVariants.{Older, Newer}
 
 -- NAMES
 
@@ -156,14 +158,15 @@ subject_said w s low h =
 
 -- ACTIONS
 
-unfoldable pub Acts : List ℕ → Action → Type 0
-Acts w x = ((u : List ℕ) → begins_word u ≡ false → action_at (w ++ u) ≡ Some (x, u)) × (is_space (get_or w 0 0) ≡ false) × (begins_word w ≡ true)
+unfoldable pub Acts : Release → List ℕ → Action → Type 0
+Acts release w x = ((u : List ℕ) → begins_word u ≡ false → action_at release (w ++ u) ≡ Some (x, u)) × (is_space (get_or w 0 0) ≡ false)
+    × (begins_word w ≡ true)
 
 -- the names of the actions that are no jumps
-pub names_act : Acts (codes "ignore") Ignore × Acts (codes "bad") Bad × Acts (codes "die") Die × Acts (codes "ok") Accept
-    × Acts (codes "done") Done × Acts (codes "reset") Reset
+pub names_act : (release : Release) → Acts release (codes "ignore") Ignore × Acts release (codes "bad") Bad × Acts release (codes "die") Die
+    × Acts release (codes "ok") Accept × Acts release (codes "done") Done × Acts release (codes "reset") Reset
 unfolding Acts action_at
-names_act = (
+names_act release = (
   (λ u n. refl, refl, refl),
   (λ u n. refl, refl, refl),
   (λ u n. refl, refl, refl),
@@ -173,11 +176,13 @@ names_act = (
 )
 
 -- one name of an action: it is that, or it is read on
-pub acts_or : (n w : List ℕ) (y x : Action) (more : Result Action ControlError) → map to_ascii_lowercase w ≡ w → map to_ascii_lowercase n ≡ n → Acts n y →
-    cond (same_name n w) (Ok y) more ≡ Ok x → (more ≡ Ok x → Acts w x) → Acts w x
-acts_or n w y x more low ln acts h other =
-    elim (same_name n w) as (λ (t : Bool). same_name n w ≡ t → cond t (Ok y) more ≡ Ok x → Acts w x) [
-      | true ↦ λ e f. let which : y ≡ x = cc in subst (λ (r : List ℕ). Acts r x) (lower_is n w low ln e) (subst (λ (r : Action). Acts n r) which acts)
+pub acts_or : (release : Release) (n w : List ℕ) (y x : Action) (more : Result Action ControlError) → map to_ascii_lowercase w ≡ w →
+    map to_ascii_lowercase n ≡ n → Acts release n y →
+    cond (same_name n w) (Ok y) more ≡ Ok x → (more ≡ Ok x → Acts release w x) → Acts release w x
+acts_or release n w y x more low ln acts h other =
+    elim (same_name n w) as (λ (t : Bool). same_name n w ≡ t → cond t (Ok y) more ≡ Ok x → Acts release w x) [
+      | true ↦ λ e f. let which : y ≡ x = cc in subst (λ (r : List ℕ). Acts release r x) (lower_is n w low ln e)
+          (subst (λ (r : Action). Acts release n r) which acts)
       | false ↦ λ e f. other f
     ] refl h
 
@@ -229,9 +234,10 @@ pub take_whole : (bs rest : List ℕ) → take (length bs) (bs ++ rest) ≡ bs
 take_whole [] rest = refl
 take_whole (c ∷ bs) rest = ap (λ (r : List ℕ). c ∷ r) (take_whole bs rest)
 
-pub no_action_name : (d : ℕ) (t : List ℕ) → is_ascii_digit d ≡ true → action_at (d ∷ t) ≡ jump_at (d ∷ t)
+pub no_action_name : (release : Release) (d : ℕ) (t : List ℕ) → is_ascii_digit d ≡ true → action_at release (d ∷ t) ≡ jump_at release (d ∷ t)
 unfolding action_at
-no_action_name d t h = rw (not_letter 105 d refl h, not_letter 111 d refl h, not_letter 100 d refl h, not_letter 98 d refl h, not_letter 114 d refl h) refl
+no_action_name release d t h =
+    rw (not_letter 105 d refl h, not_letter 111 d refl h, not_letter 100 d refl h, not_letter 98 d refl h, not_letter 114 d refl h) refl
 
 -- DIGITS
 
@@ -255,51 +261,80 @@ nines (a ∷ b ∷ c ∷ d ∷ e ∷ f ∷ g ∷ i ∷ []) h = omega arith
 nines (a ∷ b ∷ c ∷ d ∷ e ∷ f ∷ g ∷ i ∷ j ∷ []) h = omega arith
 nines (a ∷ b ∷ c ∷ d ∷ e ∷ f ∷ g ∷ i ∷ j ∷ k ∷ w) h = absurd (omega (arith, h))
 
--- the number of a jump that the manual pages read
-own_value : (w : List ℕ) → is_jump_text w ≡ true → jump_value w ≡ decimal_value w
-own_value w h =
-    let digits = (and_parts (nat_lt 0 (length w) && nat_lt (length w) 10) (list_all is_ascii_digit w) h).1 in
-    let most : decimal_value w ≤ 999999999 = (let under = grows w 0 0 (omega arith) digits in let top = nines w (jump_len w h) in omega (arith, under, top)) in
-    ap (λ (t : Bool). cond t 999999999 (decimal_value w)) (le-ltb 999999999 (decimal_value w) most)
+-- the number of a jump that the manual pages read is that of either release
+small_bits : (n : ℕ) → n ≤ 999999999 → n % 4294967296 ≡ n
+small_bits n low = omega (arith, low)
 
-pub jump_there : (d : ℕ) (w u : List ℕ) → list_all is_ascii_digit (d ∷ w) ≡ true → begins_word u ≡ false → eqb (decimal_value (d ∷ w)) 0 ≡ false →
-    jump_value (d ∷ w) ≡ decimal_value (d ∷ w) → jump_at (d ∷ w ++ u) ≡ Some (Jump (decimal_value (d ∷ w)), u)
-jump_there d w u h k z own =
+jump_so : (n : ℕ) → n ≤ 999999999 → jump_over n ≡ Jump n
+jump_so n low = ap (λ (t : Bool). Jump (cond t 999999999 n)) (le-ltb 999999999 n low)
+
+by_bits : (n : ℕ) → n ≤ 999999999 → eqb n 0 ≡ false → action_of_bits n ≡ Some (Jump n)
+by_bits n low some =
+    ap (λ (t : Bool). cond t None (cond (nat_le n 2147483647) (Some (jump_over n)) (past_int n))) some
+    ∙ ap (λ (t : Bool). cond t (Some (jump_over n)) (past_int n)) (le-leb n 2147483647 (omega (arith, low)))
+    ∙ ap (λ (a : Action). Some a) (jump_so n low)
+  where
+    past_int : ℕ → Option Action
+    past_int bits =
+        cond (eqb bits 4294967295) (Some Accept) (cond (eqb bits 4294967294) (Some Done)
+        (cond (eqb bits 4294967292) (Some Die) (cond (eqb bits 4294967291) (Some Reset) (Some Bad))))
+
+by_int : (n : ℕ) → n ≤ 999999999 → eqb n 0 ≡ false → action_of_int n ≡ Some (Jump n)
+by_int n low some =
+    ap (λ (t : Bool). cond (t || nat_lt 2147483647 n) None (Some (jump_over n))) some
+    ∙ ap (λ (t : Bool). cond t None (Some (jump_over n))) (le-ltb 2147483647 n (omega (arith, low)))
+    ∙ ap (λ (a : Action). Some a) (jump_so n low)
+
+by_number : (release : Release) (n : ℕ) → n ≤ 999999999 → eqb n 0 ≡ false → action_of_number release n ≡ Some (Jump n)
+by_number Older n low some = ap action_of_bits (small_bits n low) ∙ by_bits n low some
+by_number Newer n low some = by_int n low some
+
+most_digits : (w : List ℕ) → is_jump_text w ≡ true → decimal_value w ≤ 999999999
+most_digits w h =
+    let digits = (and_parts (nat_lt 0 (length w) && nat_lt (length w) 10) (list_all is_ascii_digit w) h).1 in
+    let under = grows w 0 0 (omega arith) digits in let top = nines w (jump_len w h) in omega (arith, under, top)
+
+pub jump_there : (release : Release) (d : ℕ) (w u : List ℕ) → list_all is_ascii_digit (d ∷ w) ≡ true → begins_word u ≡ false →
+    eqb (decimal_value (d ∷ w)) 0 ≡ false → decimal_value (d ∷ w) ≤ 999999999 →
+    jump_at release (d ∷ w ++ u) ≡ Some (Jump (decimal_value (d ∷ w)), u)
+jump_there release d w u h k z low =
     let n : prefix_len is_ascii_digit (d ∷ w ++ u) ≡ length (d ∷ w) = digits_end (d ∷ w) u h k in
     let front : take_while is_ascii_digit (d ∷ w ++ u) ≡ d ∷ w = ap (λ (m : ℕ). take m (d ∷ w ++ u)) n ∙ take_whole (d ∷ w) u in
     let back : drop (prefix_len is_ascii_digit (d ∷ w ++ u)) (d ∷ w ++ u) ≡ u = ap (λ (m : ℕ). drop m (d ∷ w ++ u)) n ∙ after_itself (d ∷ w) u in
-    ap (λ (v : List ℕ). cond (eqb (decimal_value v) 0) None (Some (Jump (jump_value v), drop (prefix_len is_ascii_digit (d ∷ w ++ u)) (d ∷ w ++ u)))) front
-    ∙ ap (λ (t : Bool). cond t None (Some (Jump (jump_value (d ∷ w)), drop (prefix_len is_ascii_digit (d ∷ w ++ u)) (d ∷ w ++ u)))) z
-    ∙ ap (λ (m : ℕ). Some (Jump m, drop (prefix_len is_ascii_digit (d ∷ w ++ u)) (d ∷ w ++ u))) own
+    ap (λ (o : Option Action). option_map {U = Action × List ℕ} (λ a. (a, drop (prefix_len is_ascii_digit (d ∷ w ++ u)) (d ∷ w ++ u))) o)
+    (ap (λ (v : List ℕ). action_of_number release (decimal_value v)) front ∙ by_number release (decimal_value (d ∷ w)) low z)
     ∙ ap (λ (r : List ℕ). Some (Jump (decimal_value (d ∷ w)), r)) back
 
-pub digits_act : (w : List ℕ) → is_jump_text w ≡ true → eqb (decimal_value w) 0 ≡ false → Acts w (Jump (decimal_value w))
+pub digits_act : (release : Release) (w : List ℕ) → is_jump_text w ≡ true → eqb (decimal_value w) 0 ≡ false → Acts release w (Jump (decimal_value w))
 unfolding Acts
-digits_act [] h z = absurd (true≢false (sym h))
-digits_act (d ∷ w) h z =
+digits_act release [] h z = absurd (true≢false (sym h))
+digits_act release (d ∷ w) h z =
     let two = and_parts (nat_lt 0 (length (d ∷ w)) && nat_lt (length (d ∷ w)) 10) (list_all is_ascii_digit (d ∷ w)) h in
-    let first = and_parts (is_ascii_digit d) (list_all is_ascii_digit w) two.1 in
-    (λ u n. no_action_name d (w ++ u) first.0 ∙ jump_there d w u two.1 n z (own_value (d ∷ w) h), digit_no_space d first.0, digit_word d first.0)
+    let first = and_parts (is_ascii_digit d) (list_all is_ascii_digit w) two.1 in (
+      λ u n. no_action_name release d (w ++ u) first.0 ∙ jump_there release d w u two.1 n z (most_digits (d ∷ w) h),
+      digit_no_space d first.0,
+      digit_word d first.0,
+    )
 
-pub jump_acts : (w : List ℕ) (x : Action) →
-    (if not (is_jump_text w) then Err BadAction else if decimal_value w == 0 then Err ZeroJump else Ok (Jump (decimal_value w))) ≡ Ok x → Acts w x
-jump_acts w x h =
+pub jump_acts : (release : Release) (w : List ℕ) (x : Action) →
+    (if not (is_jump_text w) then Err BadAction else if decimal_value w == 0 then Err ZeroJump else Ok (Jump (decimal_value w))) ≡ Ok x → Acts release w x
+jump_acts release w x h =
     elim (is_jump_text w) as (λ (t : Bool). is_jump_text w ≡ t →
-    cond (not t) (Err BadAction) (cond (eqb (decimal_value w) 0) (Err ZeroJump) (Ok (Jump (decimal_value w)))) ≡ Ok x → Acts w x) [
+    cond (not t) (Err BadAction) (cond (eqb (decimal_value w) 0) (Err ZeroJump) (Ok (Jump (decimal_value w)))) ≡ Ok x → Acts release w x) [
       | false ↦ λ e f. absurd (cc)
       | true ↦ λ e f. elim (eqb (decimal_value w) 0) as (λ (t : Bool). eqb (decimal_value w) 0 ≡ t →
-          cond t (Err ZeroJump) (Ok (Jump (decimal_value w))) ≡ Ok x → Acts w x) [
+          cond t (Err ZeroJump) (Ok (Jump (decimal_value w))) ≡ Ok x → Acts release w x) [
             | true ↦ λ g k. absurd (cc)
-            | false ↦ λ g k. let which : Jump (decimal_value w) ≡ x = cc in subst (λ (r : Action). Acts w r) which (digits_act w e g)
+            | false ↦ λ g k. let which : Jump (decimal_value w) ≡ x = cc in subst (λ (r : Action). Acts release w r) which (digits_act release w e g)
           ] refl f
     ] refl h
 
-pub action_acts : (w : List ℕ) (x : Action) → map to_ascii_lowercase w ≡ w → action_named w ≡ Ok x → Acts w x
+pub action_acts : (release : Release) (w : List ℕ) (x : Action) → map to_ascii_lowercase w ≡ w → action_named w ≡ Ok x → Acts release w x
 unfolding action_named
-action_acts w x low h =
-    acts_or (codes "ignore") w Ignore x _ low refl names_act.0 h (λ h1.
-    acts_or (codes "bad") w Bad x _ low refl names_act.1 h1 (λ h2.
-    acts_or (codes "die") w Die x _ low refl names_act.2 h2 (λ h3.
-    acts_or (codes "ok") w Accept x _ low refl names_act.3 h3 (λ h4.
-    acts_or (codes "done") w Done x _ low refl names_act.4 h4 (λ h5.
-    acts_or (codes "reset") w Reset x _ low refl names_act.5 h5 (λ h6. jump_acts w x h6))))))
+action_acts release w x low h =
+    acts_or release (codes "ignore") w Ignore x _ low refl (names_act release).0 h (λ h1.
+    acts_or release (codes "bad") w Bad x _ low refl (names_act release).1 h1 (λ h2.
+    acts_or release (codes "die") w Die x _ low refl (names_act release).2 h2 (λ h3.
+    acts_or release (codes "ok") w Accept x _ low refl (names_act release).3 h3 (λ h4.
+    acts_or release (codes "done") w Done x _ low refl (names_act release).4 h4 (λ h5.
+    acts_or release (codes "reset") w Reset x _ low refl (names_act release).5 h5 (λ h6. jump_acts release w x h6))))))

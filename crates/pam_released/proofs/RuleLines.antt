@@ -30,7 +30,8 @@ use Rattle.pam_released.proofs.RuleSteps.{AllSpelled, bare, brackets, bound}
 use Rattle.pam_released.proofs.Buffer.{unseen}
 use Rattle.pam_released.proofs.Silence.{none_if, none_located, none_of, silent}
 use Rattle.pam_released.proofs.Words.{file_words_152, file_words_170}
-use Rattle.pam_released.specs.Words.{released_words}
+use Rattle.pam_released.specs.declared.release.Release.{Release}
+use Rattle.pam_released.specs.declared.release.Release.TheVariants.{Older, Newer}
 
 -- THE WORDS OF A LINE
 
@@ -155,10 +156,10 @@ onto (Ok (Some r)) (Ok more) rules h = record { first = Some r; more = more; rea
 onto (Ok (Some r)) (Err f) rules h = absurd (cc)
 
 -- what either release reads from the lines
-pub record Read (form : Form) (lines : List (List ℕ)) (rules : List RuleText) : Type 0 where
+pub record Read (release : Release) (form : Form) (lines : List (List ℕ)) (rules : List RuleText) : Type 0 where
   pub words : List (List (List ℕ))
   pub cut : map words_of (filled lines) ≡ map (λ ws. Some ws) words
-  pub readings : map (line_reading form) (map (map text_of_word) words) ≡ map reading_of rules
+  pub readings : map (line_reading release form) (map (map text_of_word) words) ≡ map reading_of rules
 
 no_rule_of : (form : Form) (n : ℕ) (o : Option RuleText) → rule_of form n [] ≡ Ok o → o ≡ None
 unfolding rule_of
@@ -203,10 +204,10 @@ not_blank line w ws h =
     ] refl
 
 -- one more line
-add_line : (form : Form) (n : ℕ) (line : List ℕ) (lines words : List (List ℕ)) (o : Option RuleText) (rules more : List RuleText) →
+add_line : (release : Release) (form : Form) (n : ℕ) (line : List ℕ) (lines words : List (List ℕ)) (o : Option RuleText) (rules more : List RuleText) →
     words_of line ≡ Some words → rule_of form n words ≡ Ok o → rule_differences form line ≡ [] → rules ≡ option_map_or (λ r. r ∷ more) o more →
-    Read form lines more → Read form (line ∷ lines) rules
-add_line form n line lines [] o rules more w r d is others =
+    Read release form lines more → Read release form (line ∷ lines) rules
+add_line release form n line lines [] o rules more w r d is others =
     let none : o ≡ None = no_rule_of form n o r in
     let same : rules ≡ more = is ∙ ap (λ (p : Option RuleText). option_map_or (λ q. q ∷ more) p more) none in
     record {
@@ -214,7 +215,7 @@ add_line form n line lines [] o rules more w r d is others =
       cut = ap (map words_of) (skip_blank line lines (no_words_blank (is_split line [] w) refl)) ∙ others.cut;
       readings = others.readings ∙ ap (map reading_of) (sym same);
     }
-add_line form n line lines (v ∷ ws) o rules more w r d is others =
+add_line release form n line lines (v ∷ ws) o rules more w r d is others =
     let s = some_rule form n v ws o r in
     let same : rules ≡ s.rule ∷ more = is ∙ ap (λ (p : Option RuleText). option_map_or (λ q. q ∷ more) p more) s.is in
     let none = no_difference form line (v ∷ ws) w d in
@@ -224,23 +225,23 @@ add_line form n line lines (v ∷ ws) o rules more w r d is others =
       cut = ap (map words_of) (keep_filled line lines (not_blank line v ws w))
           ∙ ap (λ (p : Option (List (List ℕ))). p ∷ map words_of (filled lines)) w
           ∙ ap (λ (p : List (Option (List (List ℕ)))). Some (v ∷ ws) ∷ p) others.cut;
-      readings = ap (λ (r : Reading). r ∷ map (line_reading form) (map (map text_of_word) others.words))
-          (first_alike form n v ws s.rule spelt.1 s.first none.capital none.name)
+      readings = ap (λ (r : Reading). r ∷ map (line_reading release form) (map (map text_of_word) others.words))
+          (first_alike release form n v ws s.rule spelt.1 s.first none.capital none.name)
           ∙ ap (λ (rs : List Reading). reading_of s.rule ∷ rs) others.readings ∙ ap (map reading_of) (sym same);
     }
 
-rules_read : (form : Form) (ls : List (List FileByte)) (rules : List RuleText) → rules_in form ls ≡ Ok rules →
-    AllQuiet form (map (map (λ m. m.1)) ls) → Read form (map (map (λ m. m.1)) ls) rules
-rules_read form [] rules h q = record {
+rules_read : (release : Release) (form : Form) (ls : List (List FileByte)) (rules : List RuleText) → rules_in form ls ≡ Ok rules →
+    AllQuiet form (map (map (λ m. m.1)) ls) → Read release form (map (map (λ m. m.1)) ls) rules
+rules_read release form [] rules h q = record {
   words = [];
   cut = ap (map words_of) no_lines_filled;
   readings = ap (map reading_of) (sym (no_lines_in form rules h));
 }
-rules_read form (line ∷ ls) rules h q =
+rules_read release form (line ∷ ls) rules h q =
     let o = onto (rule_at form line) (rules_in form ls) rules (sym (first_in form line ls) ∙ h) in
     let l = line_read form line o.first o.read in
-    add_line form (line_number line) (map (λ m. m.1) line) (map (map (λ m. m.1)) ls) l.words o.first rules o.more l.cut l.rule q.0 o.whole
-    (rules_read form ls o.more o.rest q.1)
+    add_line release form (line_number line) (map (λ m. m.1) line) (map (map (λ m. m.1)) ls) l.words o.first rules o.more l.cut l.rule q.0 o.whole
+    (rules_read release form ls o.more o.rest q.1)
 
 -- THE RULES OF A FILE
 
@@ -249,11 +250,11 @@ no_source_fault : (o : Option SourceFault) (r : Result (List RuleText) RuleFault
 no_source_fault None r rules h = h
 no_source_fault (Some f) r rules h = absurd (cc)
 
-pub file_read : (form : Form) (bytes : List ℕ) (rules : List RuleText) → rules_of form bytes ≡ Ok rules →
-    rule_findings form (text_lines (text_of 1 bytes)) ≡ [] → Read form (manual_lines_of bytes) rules
+pub file_read : (release : Release) (form : Form) (bytes : List ℕ) (rules : List RuleText) → rules_of form bytes ≡ Ok rules →
+    rule_findings form (text_lines (text_of 1 bytes)) ≡ [] → Read release form (manual_lines_of bytes) rules
 unfolding rules_of
-file_read form bytes rules h q =
-    rules_read form (lines_of (text_of 1 bytes)) rules (no_source_fault (source_fault bytes) (rules_in form (lines_of (text_of 1 bytes))) rules h)
+file_read release form bytes rules h q =
+    rules_read release form (lines_of (text_of 1 bytes)) rules (no_source_fault (source_fault bytes) (rules_in form (lines_of (text_of 1 bytes))) rules h)
     (quiet_lines form bytes q)
 
 -- without a finding, by 1.5.2
@@ -262,9 +263,8 @@ by_152 : (form : Form) (bytes : List ℕ) (rules : List RuleText) → findings_o
 unfolding rules_152
 by_152 form bytes rules h r =
     let s = silent form bytes h in
-    let f = file_read form bytes rules r s.rules in
-    ap (option_map (map (line_reading form)))
-    (ap (option_map (map released_words)) (unseen bytes s.short) ∙ file_words_152 bytes f.words s.lines f.cut)
+    let f = file_read Older form bytes rules r s.rules in
+    ap (option_map (map (line_reading Older form))) (file_words_152 bytes f.words s.lines (unseen bytes s.short) f.cut)
     ∙ ap (λ (rs : List Reading). Some rs) f.readings
 
 -- and by 1.7.0
@@ -273,8 +273,8 @@ by_170 : (form : Form) (bytes : List ℕ) (rules : List RuleText) → findings_o
 unfolding rules_170
 by_170 form bytes rules h r =
     let s = silent form bytes h in
-    let f = file_read form bytes rules r s.rules in
-    ap (option_map (map (line_reading form))) (file_words_170 bytes f.words s.lines s.blanks f.cut) ∙ ap (λ (rs : List Reading). Some rs) f.readings
+    let f = file_read Newer form bytes rules r s.rules in
+    ap (option_map (map (line_reading Newer form))) (file_words_170 bytes f.words s.lines s.blanks f.cut) ∙ ap (λ (rs : List Reading). Some rs) f.readings
 
 pub same_rules : (form : Form) (bytes : List ℕ) → findings_of form bytes ≡ [] → SameRules form bytes
 same_rules form bytes h = λ rules r. (by_152 form bytes rules h r, by_170 form bytes rules h r)

@@ -17,6 +17,7 @@ use Rattle.pam_conf.specs.declared.rule.Kind.TheVariants.{Auth, Account, Passwor
 use Rattle.pam_released.specs.Findings.{from_control, has_capital, has_empty_name, past_kind}
 use Rattle.pam_released.specs.Rules.{at_include_reading, control_body, kind_reading, line_reading, reading_of, rule_reading, typed_reading, undashed}
 use Rattle.pam_released.proofs.RuleSteps.{AllSpelled, at_include_alike, bound, control_alike}
+use Rattle.pam_released.specs.declared.release.Release.{Release}
 
 -- KINDS
 
@@ -80,64 +81,64 @@ include_undashed (b ∷ bs) h =
     ] refl
 
 -- the words after a kind, and after `@include`
-typed : (s : Option (List ℕ)) (d : Bool) (name : List ℕ) (k : Kind) (words : List (List ℕ)) → kind_named name ≡ Some k →
-    typed_reading s d name words ≡ kind_reading s k d (control_body words)
+typed : (release : Release) (s : Option (List ℕ)) (d : Bool) (name : List ℕ) (k : Kind) (words : List (List ℕ)) → kind_named name ≡ Some k →
+    typed_reading release s d name words ≡ kind_reading s k d (control_body release words)
 unfolding typed_reading
-typed s d name k words h = rw (kind_no_include name k h, h) refl
+typed release s d name k words h = rw (kind_no_include name k h, h) refl
 
-typed_include : (s : Option (List ℕ)) (d : Bool) (name : List ℕ) (words : List (List ℕ)) → same_name (codes "@include") name ≡ true →
-    typed_reading s d name words ≡ at_include_reading s d words
+typed_include : (release : Release) (s : Option (List ℕ)) (d : Bool) (name : List ℕ) (words : List (List ℕ)) → same_name (codes "@include") name ≡ true →
+    typed_reading release s d name words ≡ at_include_reading s d words
 unfolding typed_reading
-typed_include s d name words h = rw h refl
+typed_include release s d name words h = rw h refl
 
 -- RULES
 
-kind_alike : (form : Form) (n : ℕ) (s : Option (List ℕ)) (kind : List ℕ) (words : List (List ℕ)) (rule : RuleText) →
+kind_alike : (release : Release) (form : Form) (n : ℕ) (s : Option (List ℕ)) (kind : List ℕ) (words : List (List ℕ)) (rule : RuleText) →
     kind_rule_of form n s kind words ≡ Ok rule → AllSpelled words → has_capital words ≡ false → has_empty_name words ≡ false →
-    rule_reading s (kind ∷ map text_of_word words) ≡ reading_of rule
+    rule_reading release s (kind ∷ map text_of_word words) ≡ reading_of rule
 unfolding kind_rule_of
-kind_alike form n s kind words rule h sp capital empty =
+kind_alike release form n s kind words rule h sp capital empty =
     let b = bound (dashed_kind_of kind) (λ k. body_of form words >>= λ body.
     Ok record { line = n; service = s; kind = Some k.1; dashed = k.0; body = body }) rule h in
     let c = bound (body_of form words) (λ body. Ok record { line = n; service = s; kind = Some b.x.1; dashed = b.x.0; body = body }) rule b.then in
     let is : record { line = n; service = s; kind = Some b.x.1; dashed = b.x.0; body = c.x } ≡ rule = cc c.then in
     let d = dashed kind b.x b.is in
-    ap (λ (p : Bool × List ℕ). typed_reading s p.0 p.1 (map text_of_word words)) d.split
-    ∙ typed s b.x.0 d.name b.x.1 (map text_of_word words) d.named
-    ∙ ap (kind_reading s b.x.1 b.x.0) (control_alike form words c.x sp c.is capital empty)
+    ap (λ (p : Bool × List ℕ). typed_reading release s p.0 p.1 (map text_of_word words)) d.split
+    ∙ typed release s b.x.0 d.name b.x.1 (map text_of_word words) d.named
+    ∙ ap (kind_reading s b.x.1 b.x.0) (control_alike release form words c.x sp c.is capital empty)
     ∙ ap reading_of is
 
-include_alike : (form : Form) (n : ℕ) (t : List ℕ) (words : List (List ℕ)) (rule : RuleText) → same_name (codes "@include") t ≡ true →
-    include_rule_of form n words ≡ Ok rule → line_reading form (t ∷ map text_of_word words) ≡ reading_of rule
+include_alike : (release : Release) (form : Form) (n : ℕ) (t : List ℕ) (words : List (List ℕ)) (rule : RuleText) → same_name (codes "@include") t ≡ true →
+    include_rule_of form n words ≡ Ok rule → line_reading release form (t ∷ map text_of_word words) ≡ reading_of rule
 unfolding include_rule_of target_of
-include_alike Single n t words rule i h = absurd (cc)
-include_alike Dir n t words rule i h =
+include_alike release Single n t words rule i h = absurd (cc)
+include_alike release Dir n t words rule i h =
     let b = bound (target_of Dir words) (λ target.
     Ok record { line = n; service = None; kind = None; dashed = false; body = Include target }) rule h in
     let is : record { line = n; service = None; kind = None; dashed = false; body = Include b.x } ≡ rule = cc b.then in
-    ap (λ (p : Bool × List ℕ). typed_reading None p.0 p.1 (map text_of_word words)) (include_undashed t i)
-    ∙ typed_include None false t (map text_of_word words) i
+    ap (λ (p : Bool × List ℕ). typed_reading release None p.0 p.1 (map text_of_word words)) (include_undashed t i)
+    ∙ typed_include release None false t (map text_of_word words) i
     ∙ at_include_alike Dir words b.x b.is
     ∙ ap reading_of is
 
-plain_alike : (form : Form) (n : ℕ) (t : List ℕ) (words : List (List ℕ)) (rule : RuleText) → plain_rule_of form n t words ≡ Ok rule →
+plain_alike : (release : Release) (form : Form) (n : ℕ) (t : List ℕ) (words : List (List ℕ)) (rule : RuleText) → plain_rule_of form n t words ≡ Ok rule →
     AllSpelled words → has_capital (past_kind form words) ≡ false → has_empty_name (past_kind form words) ≡ false →
-    line_reading form (t ∷ map text_of_word words) ≡ reading_of rule
+    line_reading release form (t ∷ map text_of_word words) ≡ reading_of rule
 unfolding plain_rule_of
-plain_alike Dir n t words rule h sp capital empty = kind_alike Dir n None t words rule h sp capital empty
-plain_alike Single n t [] rule h sp capital empty = absurd (cc)
-plain_alike Single n t (kind ∷ words) rule h sp capital empty =
-    kind_alike Single n (Some (map to_ascii_lowercase t)) (text_of_word kind) words rule h sp.1 capital empty
+plain_alike release Dir n t words rule h sp capital empty = kind_alike release Dir n None t words rule h sp capital empty
+plain_alike release Single n t [] rule h sp capital empty = absurd (cc)
+plain_alike release Single n t (kind ∷ words) rule h sp capital empty =
+    kind_alike release Single n (Some (map to_ascii_lowercase t)) (text_of_word kind) words rule h sp.1 capital empty
 
-pub first_alike : (form : Form) (n : ℕ) (w : List ℕ) (words : List (List ℕ)) (rule : RuleText) → AllSpelled words →
+pub first_alike : (release : Release) (form : Form) (n : ℕ) (w : List ℕ) (words : List (List ℕ)) (rule : RuleText) → AllSpelled words →
     first_rule_of form n (text_of_word w) words ≡ Ok rule → has_capital (from_control form (w ∷ words)) ≡ false →
-    has_empty_name (from_control form (w ∷ words)) ≡ false → line_reading form (map text_of_word (w ∷ words)) ≡ reading_of rule
+    has_empty_name (from_control form (w ∷ words)) ≡ false → line_reading release form (map text_of_word (w ∷ words)) ≡ reading_of rule
 unfolding first_rule_of from_control
-first_alike form n w words rule sp h capital empty =
+first_alike release form n w words rule sp h capital empty =
     elim (same_name (codes "@include") (text_of_word w)) as (λ (t : Bool). same_name (codes "@include") (text_of_word w) ≡ t →
     cond t (include_rule_of form n words) (plain_rule_of form n (text_of_word w) words) ≡ Ok rule →
     has_capital (cond t [] (past_kind form words)) ≡ false → has_empty_name (cond t [] (past_kind form words)) ≡ false →
-    line_reading form (text_of_word w ∷ map text_of_word words) ≡ reading_of rule) [
-      | true ↦ λ i r c e. include_alike form n (text_of_word w) words rule i r
-      | false ↦ λ i r c e. plain_alike form n (text_of_word w) words rule r sp c e
+    line_reading release form (text_of_word w ∷ map text_of_word words) ≡ reading_of rule) [
+      | true ↦ λ i r c e. include_alike release form n (text_of_word w) words rule i r
+      | false ↦ λ i r c e. plain_alike release form n (text_of_word w) words rule r sp c e
     ] refl h capital empty

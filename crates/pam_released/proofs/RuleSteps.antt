@@ -23,6 +23,7 @@ use Rattle.pam_released.specs.Rules.{Body, at_include_reading, control_actions, 
 use Rattle.pam_released.proofs.Controls.{controls_alike}
 use Rattle.pam_released.proofs.Insides.{bracket_read, inside_lower, inside_plain, no_keyword}
 use Rattle.pam_released.proofs.Words.{bracket_text, plain_text}
+use Rattle.pam_released.specs.declared.release.Release.{Release}
 
 -- a word as it is written
 pub data Spelled : List ℕ → Type 0 where
@@ -106,10 +107,11 @@ keyword_is : (o : Option Pairs) (actions other : List Action) → option_map_or 
 keyword_is None actions other h = absurd (cc)
 keyword_is (Some ps) actions other h = cc
 
-bare_actions : (b : ℕ) (bs : List ℕ) (actions : List Action) → eqb b 91 ≡ false → control_of (b ∷ bs) ≡ Ok actions → control_actions (b ∷ bs) ≡ actions
+bare_actions : (release : Release) (b : ℕ) (bs : List ℕ) (actions : List Action) → eqb b 91 ≡ false → control_of (b ∷ bs) ≡ Ok actions →
+    control_actions release (b ∷ bs) ≡ actions
 unfolding control_of
-bare_actions b bs actions n h =
-    keyword_is (keyword_pairs (b ∷ bs)) actions (released_actions (b ∷ bs))
+bare_actions release b bs actions n h =
+    keyword_is (keyword_pairs (b ∷ bs)) actions (released_actions release (b ∷ bs))
     (sym (ap (λ (t : Bool). cond t (bracket_actions bs) (keyword_actions (b ∷ bs))) n) ∙ h)
 
 no_keyword_pairs : (w : List ℕ) → same_name (codes "required") w ≡ false → same_name (codes "requisite") w ≡ false →
@@ -117,42 +119,43 @@ no_keyword_pairs : (w : List ℕ) → same_name (codes "required") w ≡ false �
 unfolding keyword_pairs keywords
 no_keyword_pairs w a b c d = rw (a, b, c, d) refl
 
-pub record Inside (inside : List ℕ) (actions : List Action) : Type 0 where
+pub record Inside (release : Release) (inside : List ℕ) (actions : List Action) : Type 0 where
   pub text : unescaped inside ≡ inside
-  pub acts : control_actions inside ≡ actions
+  pub acts : control_actions release inside ≡ actions
   pub include : same_name (codes "include") inside ≡ false
   pub substack : same_name (codes "substack") inside ≡ false
 
-inside_read : (inside : List ℕ) (actions : List Action) → is_inside false inside ≡ true → control_of (91 ∷ inside ++ 93 ∷ []) ≡ Ok actions →
-    list_any is_ascii_uppercase (inside ++ 93 ∷ []) ≡ false → Inside inside actions
-inside_read inside actions i h capital =
+inside_read : (release : Release) (inside : List ℕ) (actions : List Action) → is_inside false inside ≡ true → control_of (91 ∷ inside ++ 93 ∷ []) ≡ Ok actions →
+    list_any is_ascii_uppercase (inside ++ 93 ∷ []) ≡ false → Inside release inside actions
+inside_read release inside actions i h capital =
     let read : token_actions (tokens_of inside) ≡ Ok actions = bracket_read inside actions i h in
     let low : map to_ascii_lowercase inside ≡ inside = inside_lower inside capital in
     record {
       text = inside_plain inside actions read;
-      acts = ap (λ (o : Option Pairs). option_map_or actions_of o (released_actions inside)) (no_keyword_pairs inside
+      acts = ap (λ (o : Option Pairs). option_map_or actions_of o (released_actions release inside)) (no_keyword_pairs inside
           (no_keyword inside actions read low (codes "required") 114 refl refl refl refl)
           (no_keyword inside actions read low (codes "requisite") 114 refl refl refl refl)
           (no_keyword inside actions read low (codes "sufficient") 115 refl refl refl refl)
-          (no_keyword inside actions read low (codes "optional") 111 refl refl refl refl)) ∙ controls_alike inside actions low read;
+          (no_keyword inside actions read low (codes "optional") 111 refl refl refl refl)) ∙ controls_alike release inside actions low read;
       include = no_keyword inside actions read low (codes "include") 105 refl refl refl refl;
       substack = no_keyword inside actions read low (codes "substack") 115 refl refl refl refl;
     }
 
 -- the words after the kind, where the control is not `include` or `substack`
-other_control : (text : List ℕ) (words : List (List ℕ)) → same_name (codes "include") text ≡ false →
-    same_name (codes "substack") text ≡ false → control_body (text ∷ words) ≡ module_body (control_actions text) words
+other_control : (release : Release) (text : List ℕ) (words : List (List ℕ)) → same_name (codes "include") text ≡ false →
+    same_name (codes "substack") text ≡ false → control_body release (text ∷ words) ≡ module_body (control_actions release text) words
 unfolding control_body
-other_control text words i u = rw (i, u) refl
+other_control release text words i u = rw (i, u) refl
 
-is_include : (text : List ℕ) (words : List (List ℕ)) → same_name (codes "include") text ≡ true → control_body (text ∷ words) ≡ include_body words
+is_include : (release : Release) (text : List ℕ) (words : List (List ℕ)) → same_name (codes "include") text ≡ true →
+    control_body release (text ∷ words) ≡ include_body words
 unfolding control_body
-is_include text words i = rw i refl
+is_include release text words i = rw i refl
 
-is_substack : (text : List ℕ) (words : List (List ℕ)) → same_name (codes "include") text ≡ false →
-    same_name (codes "substack") text ≡ true → control_body (text ∷ words) ≡ substack_body words
+is_substack : (release : Release) (text : List ℕ) (words : List (List ℕ)) → same_name (codes "include") text ≡ false →
+    same_name (codes "substack") text ≡ true → control_body release (text ∷ words) ≡ substack_body words
 unfolding control_body
-is_substack text words i u = rw (i, u) refl
+is_substack release text words i u = rw (i, u) refl
 
 -- the same by the manual pages
 other_body : (form : Form) (control : List ℕ) (words : List (List ℕ)) → same_name (codes "include") control ≡ false →
@@ -174,55 +177,55 @@ body_of_substack form control words i u = rw (i, u) refl
 bracket_name : (n b : ℕ) (ns inside : List ℕ) → eqb (to_ascii_lowercase n) 91 ≡ false → same_name (n ∷ ns) (91 ∷ inside) ≡ false
 bracket_name n b ns inside h = rw h refl
 
-bracket_alike : (form : Form) (inside : List ℕ) (words : List (List ℕ)) (body : RuleBody) →
+bracket_alike : (release : Release) (form : Form) (inside : List ℕ) (words : List (List ℕ)) (body : RuleBody) →
     is_inside false inside ≡ true → body_of form ((91 ∷ inside ++ 93 ∷ []) ∷ words) ≡ Ok body →
     has_capital ((91 ∷ inside ++ 93 ∷ []) ∷ words) ≡ false → has_empty_name ((91 ∷ inside ++ 93 ∷ []) ∷ words) ≡ false →
-    control_body (text_of_word (91 ∷ inside ++ 93 ∷ []) ∷ map text_of_word words) ≡ Body body
-bracket_alike form inside words body i h capital empty =
+    control_body release (text_of_word (91 ∷ inside ++ 93 ∷ []) ∷ map text_of_word words) ≡ Body body
+bracket_alike release form inside words body i h capital empty =
     let raw : List ℕ = 91 ∷ inside ++ 93 ∷ [] in
     let b = bound (control_or_fault (91 ∷ inside ++ 93 ∷ [])) (λ a. module_of a words) body
     (sym (other_body form (91 ∷ inside ++ 93 ∷ []) words refl refl) ∙ h) in
-    let r = inside_read inside b.x i (checked (control_of (91 ∷ inside ++ 93 ∷ [])) b.x b.is) capital in
-    ap (λ (t : List ℕ). control_body (t ∷ map text_of_word words)) (bracket_text inside ∙ r.text)
-    ∙ other_control inside (map text_of_word words) r.include r.substack
+    let r = inside_read release inside b.x i (checked (control_of (91 ∷ inside ++ 93 ∷ [])) b.x b.is) capital in
+    ap (λ (t : List ℕ). control_body release (t ∷ map text_of_word words)) (bracket_text inside ∙ r.text)
+    ∙ other_control release inside (map text_of_word words) r.include r.substack
     ∙ ap (λ (a : List Action). module_body a (map text_of_word words)) r.acts
     ∙ module_alike b.x (91 ∷ inside ++ 93 ∷ []) words body b.then refl empty
 
-bare_alike : (form : Form) (c : ℕ) (cs : List ℕ) (words : List (List ℕ)) (body : RuleBody) →
+bare_alike : (release : Release) (form : Form) (c : ℕ) (cs : List ℕ) (words : List (List ℕ)) (body : RuleBody) →
     eqb c 91 ≡ false → body_of form ((c ∷ cs) ∷ words) ≡ Ok body → has_empty_name ((c ∷ cs) ∷ words) ≡ false →
-    control_body ((c ∷ cs) ∷ map text_of_word words) ≡ Body body
-bare_alike form c cs words body n h empty =
+    control_body release ((c ∷ cs) ∷ map text_of_word words) ≡ Body body
+bare_alike release form c cs words body n h empty =
     elim (same_name (codes "include") (c ∷ cs)) as (λ (t : Bool). same_name (codes "include") (c ∷ cs) ≡ t →
-    control_body ((c ∷ cs) ∷ map text_of_word words) ≡ Body body) [
+    control_body release ((c ∷ cs) ∷ map text_of_word words) ≡ Body body) [
       | true ↦ λ i.
           let b = bound (target_of form words) (λ t. Ok (Include t)) body (sym (body_of_include form (c ∷ cs) words i) ∙ h) in
           let is : Include b.x ≡ body = cc b.then in
-          is_include (c ∷ cs) (map text_of_word words) i ∙ include_alike form words b.x b.is
+          is_include release (c ∷ cs) (map text_of_word words) i ∙ include_alike form words b.x b.is
           ∙ ap Body is
       | false ↦ λ i. elim (same_name (codes "substack") (c ∷ cs)) as (λ (t : Bool). same_name (codes "substack") (c ∷ cs) ≡ t →
-          control_body ((c ∷ cs) ∷ map text_of_word words) ≡ Body body) [
+          control_body release ((c ∷ cs) ∷ map text_of_word words) ≡ Body body) [
             | true ↦ λ u.
                 let b = bound (target_of form words) (λ t. Ok (Sub t)) body (sym (body_of_substack form (c ∷ cs) words i u) ∙ h) in
                 let is : Sub b.x ≡ body = cc b.then in
-                is_substack (c ∷ cs) (map text_of_word words) i u ∙ substack_alike form (c ∷ cs) words b.x b.is i empty
+                is_substack release (c ∷ cs) (map text_of_word words) i u ∙ substack_alike form (c ∷ cs) words b.x b.is i empty
                 ∙ ap Body is
             | false ↦ λ u.
                 let b = bound (control_or_fault (c ∷ cs)) (λ a. module_of a words) body (sym (other_body form (c ∷ cs) words i u) ∙ h) in
-                other_control (c ∷ cs) (map text_of_word words) i u
-                ∙ ap (λ (a : List Action). module_body a (map text_of_word words)) (bare_actions c cs b.x n (checked (control_of (c ∷ cs)) b.x b.is))
+                other_control release (c ∷ cs) (map text_of_word words) i u
+                ∙ ap (λ (a : List Action). module_body a (map text_of_word words)) (bare_actions release c cs b.x n (checked (control_of (c ∷ cs)) b.x b.is))
                 ∙ module_alike b.x (c ∷ cs) words body b.then i empty
           ] refl
     ] refl
 
-pub control_alike : (form : Form) (words : List (List ℕ)) (body : RuleBody) → AllSpelled words →
+pub control_alike : (release : Release) (form : Form) (words : List (List ℕ)) (body : RuleBody) → AllSpelled words →
     body_of form words ≡ Ok body → has_capital words ≡ false → has_empty_name words ≡ false →
-    control_body (map text_of_word words) ≡ Body body
+    control_body release (map text_of_word words) ≡ Body body
 unfolding body_of
-control_alike form [] body sp h c e = absurd (cc)
-control_alike form (control ∷ words) body sp h c e = by_spelling control sp.0 h c e
+control_alike release form [] body sp h c e = absurd (cc)
+control_alike release form (control ∷ words) body sp h c e = by_spelling control sp.0 h c e
   where
     by_spelling : (w : List ℕ) → Spelled w → body_of form (w ∷ words) ≡ Ok body → has_capital (w ∷ words) ≡ false → has_empty_name (w ∷ words) ≡ false →
-        control_body (text_of_word w ∷ map text_of_word words) ≡ Body body
-    by_spelling w (brackets inside i) g cap emp = bracket_alike form inside words body i g cap emp
+        control_body release (text_of_word w ∷ map text_of_word words) ≡ Body body
+    by_spelling w (brackets inside i) g cap emp = bracket_alike release form inside words body i g cap emp
     by_spelling w (bare b bs n) g cap emp =
-        ap (λ (t : List ℕ). control_body (t ∷ map text_of_word words)) (plain_text b bs n) ∙ bare_alike form b bs words body n g emp
+        ap (λ (t : List ℕ). control_body release (t ∷ map text_of_word words)) (plain_text b bs n) ∙ bare_alike release form b bs words body n g emp

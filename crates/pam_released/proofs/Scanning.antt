@@ -2,14 +2,16 @@
 use Rattle.std.proofs.Common.{◌≡◌, ◌<◌, ◌≤◌, ◌+◌, ◌&&◌, ◌||◌, ◌++◌, ◌∙◌, ℕ, Bool, true, false, not, List, [], ◌∷◌, take, drop, length, cond, eqb, ap, sym}
 use Rattle.std.proofs.Common.{refl, arith, add-one, one-add, append_assoc, drop-cons, get_or}
 use Rattle.std.specs.List.{list_all, list_any, onto_first, prefix_len}
-use Rattle.std.proofs.lemmas.Bool.{and_parts, or_parts, eq-eqb}
+use Rattle.std.proofs.lemmas.Bool.{and_parts, or_parts, eq-eqb, ne_eqb}
 use Rattle.std.proofs.lemmas.List.{drop_all}
 use Rattle.pam_codes.specs.Tokens.{is_blank}
 use Rattle.pam_conf.specs.Words.{State, Between, Plain, Bracket}
 use Rattle.pam_released.specs.Bracket.{after, begins_in_blank, part, state_after}
 use Rattle.pam_released.specs.Findings.{after_last_slash, before_last_dot, ends_in_blank}
-use Rattle.pam_released.specs.Lines.{before_hash, ends_in_backslash, front_part, goes_on, has_hash, is_space_or_tab, last_is_space, physical_lines}
+use Rattle.pam_released.specs.Lines.{before_hash, ends_in_backslash, ends_in_feed, front_part, goes_on, has_hash, is_space_or_tab, last_is_space}
+use Rattle.pam_released.specs.Lines.{physical_lines}
 use Rattle.pam_released.specs.Lines.{without_end_blanks}
+use Rattle.pam_released.specs.Numbered.{is_fed_before}
 use Rattle.pam_released.specs.inner.NextState.{next_state}
 
 -- LINES
@@ -81,6 +83,17 @@ pub nothing_last_backslash : (xs : List ℕ) → length xs ≡ 0 → ends_in_bac
 unfolding ends_in_backslash
 nothing_last_backslash [] h = refl
 nothing_last_backslash (b ∷ xs) h = absurd (omega (arith, h))
+
+pub last_feed : (xs : List ℕ) (b : ℕ) → ends_in_feed (xs ++ b ∷ []) ≡ eqb b 10
+unfolding ends_in_feed
+last_feed [] b = refl
+last_feed (c ∷ []) b = refl
+last_feed (c ∷ d ∷ xs) b = last_feed (d ∷ xs) b
+
+pub nothing_last_feed : (xs : List ℕ) → length xs ≡ 0 → ends_in_feed xs ≡ false
+unfolding ends_in_feed
+nothing_last_feed [] h = refl
+nothing_last_feed (b ∷ xs) h = absurd (omega (arith, h))
 
 pub nothing_last_blank : (xs : List ℕ) → length xs ≡ 0 → ends_in_blank xs ≡ false
 unfolding ends_in_blank
@@ -287,3 +300,27 @@ no_empty_line line t g is e =
     let ends : ends_in_backslash (without_end_blanks line) ≡ true = (and_parts (not (has_hash line)) (ends_in_backslash (without_end_blanks line)) g).1 in
     let no : ends_in_backslash t ≡ false = nothing_last_backslash t e in
     let wrong : true ≡ false = sym ends ∙ ap ends_in_backslash (sym is) ∙ no in absurd (cc)
+
+-- whether line feeds end lines of 1.7.0
+
+some_lines : (b : ℕ) (ls : List (List ℕ)) (closed : Bool) → is_fed_before closed (onto_first b ls) ≡ true
+some_lines b [] closed = refl
+some_lines b (l ∷ ls) closed = refl
+
+pub fed_if_closed : (closed : Bool) (after : List ℕ) → closed ≡ true → true ≡ is_fed_before closed (physical_lines after)
+fed_if_closed true after h = some_fed (physical_lines after)
+  where
+    some_fed : (ls : List (List ℕ)) → true ≡ is_fed_before true ls
+    some_fed [] = refl
+    some_fed (l ∷ ls) = refl
+fed_if_closed false after h = absurd (cc)
+
+pub fed_before_others : (after : List ℕ) → not (eqb (length after) 0) ≡ is_fed_before false (physical_lines after)
+unfolding physical_lines
+fed_before_others [] = refl
+fed_before_others (b ∷ bs) =
+    ap not (ne_eqb (length (b ∷ bs)) 0 (λ h. omega (arith, h)))
+    ∙ sym (elim (eqb b 10) as (λ (t : Bool). is_fed_before false (cond t ([] ∷ physical_lines bs) (onto_first b (physical_lines bs))) ≡ true) [
+      | true ↦ refl
+      | false ↦ some_lines b (physical_lines bs) false
+    ])

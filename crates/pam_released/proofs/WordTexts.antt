@@ -8,18 +8,18 @@ use Rattle.pam_released.specs.Words.{Inside, Outside, Word, texts_in}
 
 -- PLAIN WORDS
 
-pub plain_word : (bs : List ℕ) → texts_in Word bs ≡ take (prefix_len (λ b. not (is_space_or_tab b)) bs) bs
-    ∷ texts_in Outside (drop (prefix_len (λ b. not (is_space_or_tab b)) bs) bs)
+pub plain_word : (feed bs : List ℕ) → texts_in feed Word bs ≡ take (prefix_len (λ b. not (is_space_or_tab b)) bs) bs
+    ∷ texts_in feed Outside (drop (prefix_len (λ b. not (is_space_or_tab b)) bs) bs)
 unfolding texts_in
-plain_word [] = refl
-plain_word (b ∷ bs) =
-    elim (is_space_or_tab b) as (λ (t : Bool). is_space_or_tab b ≡ t → cond t ([] ∷ texts_in Outside bs) (onto_first b (texts_in Word bs)) ≡
+plain_word feed [] = refl
+plain_word feed (b ∷ bs) =
+    elim (is_space_or_tab b) as (λ (t : Bool). is_space_or_tab b ≡ t → cond t ([] ∷ texts_in feed Outside bs) (onto_first b (texts_in feed Word bs)) ≡
     take (cond (not t) (1 + prefix_len (λ c. not (is_space_or_tab c)) bs) 0) (b ∷ bs)
-    ∷ texts_in Outside (drop (cond (not t) (1 + prefix_len (λ c. not (is_space_or_tab c)) bs) 0) (b ∷ bs))) [
-      | true ↦ λ h. ap (λ (r : List (List ℕ)). [] ∷ r) (sym (ap (λ (t : Bool). cond t (texts_in Outside bs)
-          (cond (eqb b 91) (texts_in Inside bs) (onto_first b (texts_in Word bs)))) h))
-      | false ↦ λ h. ap (onto_first b) (plain_word bs)
-          ∙ ap (λ (k : ℕ). take k (b ∷ bs) ∷ texts_in Outside (drop k (b ∷ bs))) (sym (one-add (prefix_len (λ c. not (is_space_or_tab c)) bs)))
+    ∷ texts_in feed Outside (drop (cond (not t) (1 + prefix_len (λ c. not (is_space_or_tab c)) bs) 0) (b ∷ bs))) [
+      | true ↦ λ h. ap (λ (r : List (List ℕ)). [] ∷ r) (sym (ap (λ (t : Bool). cond t (texts_in feed Outside bs)
+          (cond (eqb b 91) (texts_in feed Inside bs) (onto_first b (texts_in feed Word bs)))) h))
+      | false ↦ λ h. ap (onto_first b) (plain_word feed bs)
+          ∙ ap (λ (k : ℕ). take k (b ∷ bs) ∷ texts_in feed Outside (drop k (b ∷ bs))) (sym (one-add (prefix_len (λ c. not (is_space_or_tab c)) bs)))
     ] refl
 
 -- WORDS IN BRACKETS
@@ -43,133 +43,137 @@ either_some true u x y z h k l = h
 either_some false true x y z h k l = k
 either_some false false x y z h k l = l
 
-last_some : (t : Bool) (b : ℕ) → is_some (cond t ([] ∷ []) ((b ∷ []) ∷ [])) ≡ true
+last_some : (t : Bool) (b : ℕ) (feed : List ℕ) → is_some (cond t ([] ∷ []) ((b ∷ feed) ∷ [])) ≡ true
 unfolding is_some
-last_some true b = refl
-last_some false b = refl
+last_some true b feed = refl
+last_some false b feed = refl
 
-some_word : (bs : List ℕ) → is_some (texts_in Inside bs) ≡ true
+some_word : (feed bs : List ℕ) → is_some (texts_in feed Inside bs) ≡ true
 unfolding texts_in is_some
-some_word [] = refl
-some_word (b ∷ []) = last_some (eqb b 93) b
-some_word (b ∷ c ∷ bs) = either_some (eqb b 93) (eqb b 92 && eqb c 93) ([] ∷ texts_in Outside (c ∷ bs)) (onto_first 93 (texts_in Inside bs))
-    (onto_first b (texts_in Inside (c ∷ bs))) refl (onto_some 93 (texts_in Inside bs)) (onto_some b (texts_in Inside (c ∷ bs)))
+some_word feed [] = refl
+some_word feed (b ∷ []) = last_some (eqb b 93) b feed
+some_word feed (b ∷ c ∷ bs) = either_some (eqb b 93) (eqb b 92 && eqb c 93) ([] ∷ texts_in feed Outside (c ∷ bs)) (onto_first 93 (texts_in feed Inside bs))
+    (onto_first b (texts_in feed Inside (c ∷ bs))) refl (onto_some 93 (texts_in feed Inside bs)) (onto_some b (texts_in feed Inside (c ∷ bs)))
 
-pub nothing_before : (text bs : List ℕ) → text ≡ [] → onto_line text (texts_in Inside bs) ≡ texts_in Inside bs
-nothing_before text bs none = ap (λ (r : List ℕ). onto_line r (texts_in Inside bs)) none ∙ with_nothing (texts_in Inside bs) (some_word bs)
+pub nothing_before : (feed text bs : List ℕ) → text ≡ [] → onto_line text (texts_in feed Inside bs) ≡ texts_in feed Inside bs
+nothing_before feed text bs none = ap (λ (r : List ℕ). onto_line r (texts_in feed Inside bs)) none ∙ with_nothing (texts_in feed Inside bs) (some_word feed bs)
 
 pub onto_pushed : (text : List ℕ) (b : ℕ) (ws : List (List ℕ)) → onto_line (text ++ b ∷ []) ws ≡ onto_line text (onto_first b ws)
 onto_pushed text b [] = refl
 onto_pushed text b (w ∷ ws) = ap (λ (r : List ℕ). r ∷ ws) (append_assoc text (b ∷ []) w)
 
-pub closed : (bs : List ℕ) → texts_in Inside (93 ∷ bs) ≡ [] ∷ texts_in Outside bs
+pub closed : (feed bs : List ℕ) → texts_in feed Inside (93 ∷ bs) ≡ [] ∷ texts_in feed Outside bs
 unfolding texts_in
-closed [] = refl
-closed (b ∷ bs) = refl
+closed feed [] = refl
+closed feed (b ∷ bs) = refl
 
-pub escaped : (bs : List ℕ) → texts_in Inside (92 ∷ 93 ∷ bs) ≡ onto_first 93 (texts_in Inside bs)
+pub escaped : (feed bs : List ℕ) → texts_in feed Inside (92 ∷ 93 ∷ bs) ≡ onto_first 93 (texts_in feed Inside bs)
 unfolding texts_in
-escaped bs = refl
+escaped feed bs = refl
 
-pub nothing_more : texts_in Inside [] ≡ [] ∷ texts_in Outside []
+pub nothing_more : (feed : List ℕ) → texts_in feed Inside [] ≡ feed ∷ texts_in feed Outside []
 unfolding texts_in
-nothing_more = refl
+nothing_more feed = refl
 
 -- the next byte, if any, is escaped by this one
 abbrev pub is_escape : ℕ → List ℕ → Bool
 is_escape b [] = false
 is_escape b (c ∷ bs) = eqb b 92 && eqb c 93
 
-pub one_byte : (b : ℕ) (bs : List ℕ) → eqb b 93 ≡ false → is_escape b bs ≡ false → texts_in Inside (b ∷ bs) ≡ onto_first b (texts_in Inside bs)
+pub one_byte : (feed : List ℕ) (b : ℕ) (bs : List ℕ) → eqb b 93 ≡ false → is_escape b bs ≡ false →
+    texts_in feed Inside (b ∷ bs) ≡ onto_first b (texts_in feed Inside bs)
 unfolding texts_in
-one_byte b [] h e = ap (λ (t : Bool). cond t ([] ∷ []) ((b ∷ []) ∷ [])) h
-one_byte b (c ∷ bs) h e =
-    ap (λ (t : Bool). cond t ([] ∷ texts_in Outside (c ∷ bs)) (cond (eqb b 92 && eqb c 93) (onto_first 93 (texts_in Inside bs))
-    (onto_first b (texts_in Inside (c ∷ bs))))) h
-    ∙ ap (λ (t : Bool). cond t (onto_first 93 (texts_in Inside bs)) (onto_first b (texts_in Inside (c ∷ bs)))) e
+one_byte feed b [] h e = ap (λ (t : Bool). cond t ([] ∷ []) ((b ∷ feed) ∷ [])) h
+one_byte feed b (c ∷ bs) h e =
+    ap (λ (t : Bool). cond t ([] ∷ texts_in feed Outside (c ∷ bs)) (cond (eqb b 92 && eqb c 93) (onto_first 93 (texts_in feed Inside bs))
+    (onto_first b (texts_in feed Inside (c ∷ bs))))) h
+    ∙ ap (λ (t : Bool). cond t (onto_first 93 (texts_in feed Inside bs)) (onto_first b (texts_in feed Inside (c ∷ bs)))) e
 
 -- WORDS
 
-pub blank_between : (b : ℕ) (bs : List ℕ) → is_space_or_tab b ≡ true → texts_in Outside (b ∷ bs) ≡ texts_in Outside bs
+pub blank_between : (feed : List ℕ) (b : ℕ) (bs : List ℕ) → is_space_or_tab b ≡ true → texts_in feed Outside (b ∷ bs) ≡ texts_in feed Outside bs
 unfolding texts_in
-blank_between b bs h = ap (λ (t : Bool). cond t (texts_in Outside bs) (cond (eqb b 91) (texts_in Inside bs) (onto_first b (texts_in Word bs)))) h
+blank_between feed b bs h = ap (λ (t : Bool). cond t (texts_in feed Outside bs) (cond (eqb b 91) (texts_in feed Inside bs) (onto_first b
+    (texts_in feed Word bs)))) h
 
-pub bracket_opens : (bs : List ℕ) → texts_in Outside (91 ∷ bs) ≡ texts_in Inside bs
+pub bracket_opens : (feed bs : List ℕ) → texts_in feed Outside (91 ∷ bs) ≡ texts_in feed Inside bs
 unfolding texts_in
-bracket_opens bs = refl
+bracket_opens feed bs = refl
 
-pub word_begins : (b : ℕ) (bs : List ℕ) → is_space_or_tab b ≡ false → eqb b 91 ≡ false → texts_in Outside (b ∷ bs) ≡ texts_in Word (b ∷ bs)
+pub word_begins : (feed : List ℕ) (b : ℕ) (bs : List ℕ) → is_space_or_tab b ≡ false → eqb b 91 ≡ false →
+    texts_in feed Outside (b ∷ bs) ≡ texts_in feed Word (b ∷ bs)
 unfolding texts_in
-word_begins b bs h e =
-    ap (λ (t : Bool). cond t (texts_in Outside bs) (cond (eqb b 91) (texts_in Inside bs) (onto_first b (texts_in Word bs)))) h
-    ∙ ap (λ (t : Bool). cond t (texts_in Inside bs) (onto_first b (texts_in Word bs))) e
-    ∙ sym (ap (λ (t : Bool). cond t ([] ∷ texts_in Outside bs) (onto_first b (texts_in Word bs))) h)
+word_begins feed b bs h e =
+    ap (λ (t : Bool). cond t (texts_in feed Outside bs) (cond (eqb b 91) (texts_in feed Inside bs) (onto_first b (texts_in feed Word bs)))) h
+    ∙ ap (λ (t : Bool). cond t (texts_in feed Inside bs) (onto_first b (texts_in feed Word bs))) e
+    ∙ sym (ap (λ (t : Bool). cond t ([] ∷ texts_in feed Outside bs) (onto_first b (texts_in feed Word bs))) h)
 
 -- BYTE BY BYTE, after the text that is read
 
-pub inside_closed : (text rest after : List ℕ) (b : ℕ) (whole : List (List ℕ)) → rest ≡ b ∷ after → b ≡ 93 →
-    onto_line text (texts_in Inside rest) ≡ whole → whole ≡ text ∷ texts_in Outside after
-inside_closed text rest after b whole split is h =
-    sym h ∙ ap (λ (r : List ℕ). onto_line text (texts_in Inside r)) (split ∙ ap (λ (c : ℕ). c ∷ after) is)
-    ∙ ap (onto_line text) (closed after) ∙ ap (λ (r : List ℕ). r ∷ texts_in Outside after) (append-nil text)
+pub inside_closed : (feed text rest after : List ℕ) (b : ℕ) (whole : List (List ℕ)) → rest ≡ b ∷ after → b ≡ 93 →
+    onto_line text (texts_in feed Inside rest) ≡ whole → whole ≡ text ∷ texts_in feed Outside after
+inside_closed feed text rest after b whole split is h =
+    sym h ∙ ap (λ (r : List ℕ). onto_line text (texts_in feed Inside r)) (split ∙ ap (λ (c : ℕ). c ∷ after) is)
+    ∙ ap (onto_line text) (closed feed after) ∙ ap (λ (r : List ℕ). r ∷ texts_in feed Outside after) (append-nil text)
 
-pub inside_escaped : (text rest after later pushed : List ℕ) (b c : ℕ) (whole : List (List ℕ)) → rest ≡ b ∷ after → after ≡ c ∷ later → b ≡ 92 → c ≡ 93 →
-    pushed ≡ text ++ 93 ∷ [] → onto_line text (texts_in Inside rest) ≡ whole → onto_line pushed (texts_in Inside later) ≡ whole
-inside_escaped text rest after later pushed b c whole split next is closes push h =
-    ap (λ (r : List ℕ). onto_line r (texts_in Inside later)) push
-    ∙ onto_pushed text 93 (texts_in Inside later)
-    ∙ ap (onto_line text) (sym (escaped later))
-    ∙ ap (λ (r : List ℕ). onto_line text (texts_in Inside r))
+pub inside_escaped : (feed text rest after later pushed : List ℕ) (b c : ℕ) (whole : List (List ℕ)) → rest ≡ b ∷ after → after ≡ c ∷ later → b ≡ 92 → c ≡ 93 →
+    pushed ≡ text ++ 93 ∷ [] → onto_line text (texts_in feed Inside rest) ≡ whole → onto_line pushed (texts_in feed Inside later) ≡ whole
+inside_escaped feed text rest after later pushed b c whole split next is closes push h =
+    ap (λ (r : List ℕ). onto_line r (texts_in feed Inside later)) push
+    ∙ onto_pushed text 93 (texts_in feed Inside later)
+    ∙ ap (onto_line text) (sym (escaped feed later))
+    ∙ ap (λ (r : List ℕ). onto_line text (texts_in feed Inside r))
     (sym (split ∙ ap (λ (r : List ℕ). b ∷ r) next ∙ ap (λ (k : ℕ). k ∷ c ∷ later) is ∙ ap (λ (k : ℕ). 92 ∷ k ∷ later) closes))
     ∙ h
 
-pub inside_byte : (text rest after pushed : List ℕ) (b : ℕ) (whole : List (List ℕ)) → rest ≡ b ∷ after → eqb b 93 ≡ false → is_escape b after ≡ false →
-    pushed ≡ text ++ b ∷ [] → onto_line text (texts_in Inside rest) ≡ whole → onto_line pushed (texts_in Inside after) ≡ whole
-inside_byte text rest after pushed b whole split other plain push h =
-    ap (λ (r : List ℕ). onto_line r (texts_in Inside after)) push
-    ∙ onto_pushed text b (texts_in Inside after)
-    ∙ ap (onto_line text) (sym (one_byte b after other plain))
-    ∙ ap (λ (r : List ℕ). onto_line text (texts_in Inside r)) (sym split) ∙ h
+pub inside_byte : (feed text rest after pushed : List ℕ) (b : ℕ) (whole : List (List ℕ)) → rest ≡ b ∷ after → eqb b 93 ≡ false → is_escape b after ≡ false →
+    pushed ≡ text ++ b ∷ [] → onto_line text (texts_in feed Inside rest) ≡ whole → onto_line pushed (texts_in feed Inside after) ≡ whole
+inside_byte feed text rest after pushed b whole split other plain push h =
+    ap (λ (r : List ℕ). onto_line r (texts_in feed Inside after)) push
+    ∙ onto_pushed text b (texts_in feed Inside after)
+    ∙ ap (onto_line text) (sym (one_byte feed b after other plain))
+    ∙ ap (λ (r : List ℕ). onto_line text (texts_in feed Inside r)) (sym split) ∙ h
 
-pub inside_end : (text rest : List ℕ) (whole : List (List ℕ)) → rest ≡ [] → onto_line text (texts_in Inside rest) ≡ whole →
-    whole ≡ text ∷ texts_in Outside rest
-inside_end text rest whole none h =
-    sym h ∙ ap (λ (r : List ℕ). onto_line text (texts_in Inside r)) none ∙ ap (onto_line text) nothing_more
-    ∙ ap (λ (r : List ℕ). r ∷ texts_in Outside []) (append-nil text) ∙ ap (λ (r : List ℕ). text ∷ texts_in Outside r) (sym none)
+pub inside_end : (feed text rest pushed : List ℕ) (whole : List (List ℕ)) → rest ≡ [] → pushed ≡ text ++ feed →
+    onto_line text (texts_in feed Inside rest) ≡ whole → whole ≡ pushed ∷ texts_in feed Outside rest
+inside_end feed text rest pushed whole none push h =
+    sym h ∙ ap (λ (r : List ℕ). onto_line text (texts_in feed Inside r)) none ∙ ap (onto_line text) (nothing_more feed)
+    ∙ ap (λ (r : List ℕ). r ∷ texts_in feed Outside []) (sym push) ∙ ap (λ (r : List ℕ). pushed ∷ texts_in feed Outside r) (sym none)
 
-pub words_blank : (texts : List (List ℕ)) (rest after : List ℕ) (b : ℕ) (whole : List (List ℕ)) → rest ≡ b ∷ after → is_space_or_tab b ≡ true →
-    texts ++ texts_in Outside rest ≡ whole → texts ++ texts_in Outside after ≡ whole
-words_blank texts rest after b whole split blank h =
-    ap (λ (r : List (List ℕ)). texts ++ r) (sym (blank_between b after blank)) ∙ ap (λ (r : List ℕ). texts ++ texts_in Outside r) (sym split) ∙ h
+pub words_blank : (feed : List ℕ) (texts : List (List ℕ)) (rest after : List ℕ) (b : ℕ) (whole : List (List ℕ)) → rest ≡ b ∷ after → is_space_or_tab b ≡ true →
+    texts ++ texts_in feed Outside rest ≡ whole → texts ++ texts_in feed Outside after ≡ whole
+words_blank feed texts rest after b whole split blank h =
+    ap (λ (r : List (List ℕ)). texts ++ r) (sym (blank_between feed b after blank)) ∙ ap (λ (r : List ℕ). texts ++ texts_in feed Outside r) (sym split) ∙ h
 
 one_more : (texts pushed more : List (List ℕ)) (text : List ℕ) → pushed ≡ texts ++ text ∷ [] → pushed ++ more ≡ texts ++ text ∷ more
 one_more texts pushed more text push = ap (λ (r : List (List ℕ)). r ++ more) push ∙ append_assoc texts (text ∷ []) more
 
-pub words_inside : (texts pushed : List (List ℕ)) (rest after text later : List ℕ) (b : ℕ) (whole : List (List ℕ)) → rest ≡ b ∷ after → b ≡ 91 →
-    texts_in Inside after ≡ text ∷ texts_in Outside later → pushed ≡ texts ++ text ∷ [] →
-    texts ++ texts_in Outside rest ≡ whole → pushed ++ texts_in Outside later ≡ whole
-words_inside texts pushed rest after text later b whole split is word push h =
-    one_more texts pushed (texts_in Outside later) text push
-    ∙ ap (λ (r : List (List ℕ)). texts ++ r) (sym (bracket_opens after ∙ word))
-    ∙ ap (λ (r : List ℕ). texts ++ texts_in Outside r) (sym (split ∙ ap (λ (k : ℕ). k ∷ after) is)) ∙ h
+pub words_inside : (feed : List ℕ) (texts pushed : List (List ℕ)) (rest after text later : List ℕ) (b : ℕ) (whole : List (List ℕ)) → rest ≡ b ∷ after → b ≡ 91 →
+    texts_in feed Inside after ≡ text ∷ texts_in feed Outside later → pushed ≡ texts ++ text ∷ [] →
+    texts ++ texts_in feed Outside rest ≡ whole → pushed ++ texts_in feed Outside later ≡ whole
+words_inside feed texts pushed rest after text later b whole split is word push h =
+    one_more texts pushed (texts_in feed Outside later) text push
+    ∙ ap (λ (r : List (List ℕ)). texts ++ r) (sym (bracket_opens feed after ∙ word))
+    ∙ ap (λ (r : List ℕ). texts ++ texts_in feed Outside r) (sym (split ∙ ap (λ (k : ℕ). k ∷ after) is)) ∙ h
 
-pub words_plain : (texts pushed : List (List ℕ)) (rest after text later : List ℕ) (b : ℕ) (whole : List (List ℕ)) → rest ≡ b ∷ after →
-    is_space_or_tab b ≡ false → eqb b 91 ≡ false → texts_in Word rest ≡ text ∷ texts_in Outside later → pushed ≡ texts ++ text ∷ [] →
-    texts ++ texts_in Outside rest ≡ whole → pushed ++ texts_in Outside later ≡ whole
-words_plain texts pushed rest after text later b whole split blank other word push h =
-    one_more texts pushed (texts_in Outside later) text push
+pub words_plain : (feed : List ℕ) (texts pushed : List (List ℕ)) (rest after text later : List ℕ) (b : ℕ) (whole : List (List ℕ)) → rest ≡ b ∷ after →
+    is_space_or_tab b ≡ false → eqb b 91 ≡ false → texts_in feed Word rest ≡ text ∷ texts_in feed Outside later → pushed ≡ texts ++ text ∷ [] →
+    texts ++ texts_in feed Outside rest ≡ whole → pushed ++ texts_in feed Outside later ≡ whole
+words_plain feed texts pushed rest after text later b whole split blank other word push h =
+    one_more texts pushed (texts_in feed Outside later) text push
     ∙ ap (λ (r : List (List ℕ)). texts ++ r) (sym word)
-    ∙ ap (λ (r : List ℕ). texts ++ texts_in Word r) split
-    ∙ ap (λ (r : List (List ℕ)). texts ++ r) (sym (word_begins b after blank other))
-    ∙ ap (λ (r : List ℕ). texts ++ texts_in Outside r) (sym split) ∙ h
+    ∙ ap (λ (r : List ℕ). texts ++ texts_in feed Word r) split
+    ∙ ap (λ (r : List (List ℕ)). texts ++ r) (sym (word_begins feed b after blank other))
+    ∙ ap (λ (r : List ℕ). texts ++ texts_in feed Outside r) (sym split) ∙ h
 
-no_bytes : texts_in Outside [] ≡ []
+no_bytes : (feed : List ℕ) → texts_in feed Outside [] ≡ []
 unfolding texts_in
-no_bytes = refl
+no_bytes feed = refl
 
-pub words_end : (texts : List (List ℕ)) (rest : List ℕ) (whole : List (List ℕ)) → rest ≡ [] → texts ++ texts_in Outside rest ≡ whole → texts ≡ whole
-words_end texts rest whole none h =
-    sym (append-nil texts) ∙ ap (λ (r : List (List ℕ)). texts ++ r) (sym no_bytes) ∙ ap (λ (r : List ℕ). texts ++ texts_in Outside r) (sym none) ∙ h
+pub words_end : (feed : List ℕ) (texts : List (List ℕ)) (rest : List ℕ) (whole : List (List ℕ)) → rest ≡ [] →
+    texts ++ texts_in feed Outside rest ≡ whole → texts ≡ whole
+words_end feed texts rest whole none h =
+    sym (append-nil texts) ∙ ap (λ (r : List (List ℕ)). texts ++ r) (sym (no_bytes feed)) ∙ ap (λ (r : List ℕ). texts ++ texts_in feed Outside r) (sym none) ∙ h
 
 -- LENGTHS, AND BYTES THAT ESCAPE NOTHING
 

@@ -16,6 +16,7 @@ use Rattle.pam_released.specs.Findings.{findings_of}
 use Rattle.pam_released.specs.Lines.{before_hash, continued, filled, lines_152, lines_170, manual_lines_of, not_empty, physical_lines, pieces}
 use Rattle.pam_released.specs.Rules.{reading_of, rules_152, rules_170}
 use Rattle.pam_released.specs.Words.{released_words, words_152, words_170}
+use Rattle.pam_released.specs.declared.release.Release.{Release}
 
 -- the lines of the manual pages, by what is between line feeds
 abbrev pub ManualLines : Type 0
@@ -54,15 +55,16 @@ FileWords170 = (form : Form) (bytes : List ℕ) (words : List (List (List ℕ)))
 
 -- WORDS AND CONTROLS
 
--- a line without a carriage return whose brackets are closed has the same words as the manual pages say
+-- a line without a carriage return whose brackets are closed has the same words as the manual pages say, whether a line feed ends it or not
 abbrev pub WordsAlike : Type 0
-WordsAlike = (line : List ℕ) (words : List (List ℕ)) → list_any (λ b. b == 13) line ≡ false → words_of line ≡ Some words →
-    released_words line ≡ map text_of_word words
+WordsAlike = (feed line : List ℕ) (words : List (List ℕ)) → list_any (λ b. b == 13) line ≡ false → words_of line ≡ Some words →
+    released_words feed line ≡ map text_of_word words
 
 -- without a capital, the inside of a control in brackets that has no fault has the same 31 actions
 abbrev pub ControlsAlike : Type 0
-ControlsAlike = (inside : List ℕ) (actions : List Action) → map to_ascii_lowercase inside ≡ inside → token_actions (tokens_of inside) ≡ Ok actions →
-    released_actions inside ≡ actions
+ControlsAlike = (release : Release) (inside : List ℕ) (actions : List Action) → map to_ascii_lowercase inside ≡ inside →
+    token_actions (tokens_of inside) ≡ Ok actions →
+    released_actions release inside ≡ actions
 
 -- THE RULES OF A FILE
 

@@ -32,6 +32,12 @@ has_hash line = list_any (λ b. b == 35) line
 abbrev pub is_blank_line : List ℕ → Bool
 is_blank_line line = list_all is_space_or_tab (before_hash line)
 
+-- the last byte is a line feed
+unfoldable pub ends_in_feed : List ℕ → Bool
+ends_in_feed [] = false
+ends_in_feed (b ∷ []) = b == 10
+ends_in_feed (b ∷ c ∷ bs) = ends_in_feed (c ∷ bs)
+
 unfoldable pub ends_in_backslash : List ℕ → Bool
 ends_in_backslash [] = false
 ends_in_backslash (b ∷ []) = b == 92

@@ -5,7 +5,7 @@ use Rattle.pam_conf.specs.Rule.{body_view}
 use Rattle.pam_conf.specs.declared.rule.Form.{Form}
 use Rattle.pam_released.specs.Numbered.{NumberedLine, numbered_lines}
 use Rattle.pam_released.specs.Rules.{FailingRule, Fails, LineRule, Reading, Reads, Refuses, line_reading, rules_152, rules_170}
-use Rattle.pam_released.specs.Words.{released_words}
+use Rattle.pam_released.specs.Words.{line_words}
 use Rattle.pam_released.specs.declared.reading.FailingRule.{FailingRule as KeptFailing}
 use Rattle.pam_released.specs.declared.reading.LineRule.{LineRule as KeptRule}
 use Rattle.pam_released.specs.declared.reading.NumberedReading.{NumberedReading}
@@ -23,12 +23,12 @@ rules_by Newer form bytes = rules_170 form bytes
 abbrev pub NumberedRule : Type 0
 NumberedRule = ℕ × Reading
 
-abbrev pub numbered_reading : Form → NumberedLine → NumberedRule
-numbered_reading form line = (line.0, line_reading form (released_words line.1))
+abbrev pub numbered_reading : Release → Form → NumberedLine → NumberedRule
+numbered_reading release form line = (line.start, line_reading release form (line_words line))
 
 -- THE RULES OF A FILE by a release, with the numbers of their lines. None where it is refused as a whole
 abbrev pub numbered_rules : Release → Form → List ℕ → Option (List NumberedRule)
-numbered_rules release form bytes = option_map (map (numbered_reading form)) (numbered_lines release bytes)
+numbered_rules release form bytes = option_map (map (numbered_reading release form)) (numbered_lines release bytes)
 
 -- AS THE CODE KEEPS THEM
 

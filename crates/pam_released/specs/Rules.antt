@@ -13,6 +13,8 @@ use Rattle.pam_conf.specs.declared.rule.Kind.TheVariants.{Auth}
 use Rattle.pam_released.specs.Control.{all_bad, released_actions}
 use Rattle.pam_released.specs.Findings.{is_no_name, module_name}
 use Rattle.pam_released.specs.Words.{words_152, words_170}
+use Rattle.pam_released.specs.declared.release.Release.{Release}
+use Rattle.pam_released.specs.declared.release.Release.TheVariants.{Older, Newer}
 
 -- a rule, without the number of its line
 pub record LineRule : Type 0 where
@@ -62,16 +64,16 @@ module_body actions [] = Missing actions
 module_body actions (path ∷ arguments) = if is_no_name (module_name path) then Refused else Body (Module actions path arguments)
 
 -- the actions of a keyword, or of the inside of brackets: brackets around a keyword do not show
-abbrev pub control_actions : List ℕ → List Action
-control_actions text = option_map_or actions_of (keyword_pairs text) (released_actions text)
+abbrev pub control_actions : Release → List ℕ → List Action
+control_actions release text = option_map_or actions_of (keyword_pairs text) (released_actions release text)
 
 -- the words after the kind; without a control, each code is bad
-unfoldable pub control_body : List (List ℕ) → BodyRead
-control_body [] = Missing all_bad
-control_body (control ∷ words) =
+unfoldable pub control_body : Release → List (List ℕ) → BodyRead
+control_body release [] = Missing all_bad
+control_body release (control ∷ words) =
     if same_name (codes "include") control then include_body words
     else if same_name (codes "substack") control then substack_body words
-    else module_body (control_actions control) words
+    else module_body (control_actions release control) words
 
 -- the line of a kind
 abbrev pub kind_reading : Option (List ℕ) → Kind → Bool → BodyRead → Reading
@@ -102,29 +104,29 @@ undashed [] = (false, [])
 undashed (b ∷ bs) = if b == 45 then (true, bs) else (false, b ∷ bs)
 
 -- the words after a kind, without its dash
-unfoldable pub typed_reading : Option (List ℕ) → Bool → List ℕ → List (List ℕ) → Reading
-typed_reading service dashed kind words =
+unfoldable pub typed_reading : Release → Option (List ℕ) → Bool → List ℕ → List (List ℕ) → Reading
+typed_reading release service dashed kind words =
     if same_name (codes "@include") kind then at_include_reading service dashed words
-    else option_map_or (λ k. kind_reading service k dashed (control_body words)) (kind_named kind)
-    (no_kind_reading service dashed (control_body words))
+    else option_map_or (λ k. kind_reading service k dashed (control_body release words)) (kind_named kind)
+    (no_kind_reading service dashed (control_body release words))
 
 -- the words from the kind on: without a kind, too, the line counts as `auth`
-abbrev pub rule_reading : Option (List ℕ) → List (List ℕ) → Reading
-rule_reading service [] = fails service Auth all_bad
-rule_reading service (kind ∷ words) = typed_reading service (undashed kind).0 (undashed kind).1 words
+abbrev pub rule_reading : Release → Option (List ℕ) → List (List ℕ) → Reading
+rule_reading release service [] = fails service Auth all_bad
+rule_reading release service (kind ∷ words) = typed_reading release service (undashed kind).0 (undashed kind).1 words
 
 -- THE READING OF A LINE, by its words
-abbrev pub line_reading : Form → List (List ℕ) → Reading
-line_reading Dir words = rule_reading None words
-line_reading Single [] = fails None Auth all_bad
-line_reading Single (service ∷ words) = rule_reading (Some (map to_ascii_lowercase service)) words
+abbrev pub line_reading : Release → Form → List (List ℕ) → Reading
+line_reading release Dir words = rule_reading release None words
+line_reading release Single [] = fails None Auth all_bad
+line_reading release Single (service ∷ words) = rule_reading release (Some (map to_ascii_lowercase service)) words
 
 -- THE RULES OF A FILE by either release. None where it is refused as a whole
 unfoldable pub rules_152 : Form → List ℕ → Option (List Reading)
-rules_152 form bytes = option_map (map (line_reading form)) (words_152 bytes)
+rules_152 form bytes = option_map (map (line_reading Older form)) (words_152 bytes)
 
 unfoldable pub rules_170 : Form → List ℕ → Option (List Reading)
-rules_170 form bytes = option_map (map (line_reading form)) (words_170 bytes)
+rules_170 form bytes = option_map (map (line_reading Newer form)) (words_170 bytes)
 
 -- a rule of the manual pages, as such a reading
 abbrev pub reading_of : RuleText → Reading

@@ -2,4 +2,5 @@
 pub mod Bodies
 pub mod NextState
 pub mod Numbered
+pub mod Numbers
 pub mod Pair

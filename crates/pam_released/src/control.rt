@@ -1,20 +1,29 @@
 //! The control of a rule, as released Linux-PAM reads it.
 
-ghost use Rattle.std.specs.Prelude.{◌≡◌, ◌<◌, ◌≤◌, ℕ, List, IfSome, MatchOption, drop, false, find, length, true};
+ghost use Rattle.std.specs.Prelude.{◌≡◌, ◌<◌, ◌≤◌, ◌%◌, ℕ, List, IfSome, MatchOption, drop, false, find, length, true};
 ghost use Rattle.std.specs.Char.{is_ascii_digit};
 ghost use Rattle.std.specs.List.{prefix_len};
 ghost use Rattle.std.specs.Option.{option_map};
-ghost use Rattle.pam_codes.specs.Action.{IsAction};
+ghost use Rattle.pam_codes.specs.Action.{IsAction, decimal_value};
 ghost use Rattle.pam_codes.specs.Code.{all_codes};
-ghost use Rattle.pam_released.specs.Control.{action_at, after_spaces, begins, equals_at, is_space, jump_at, jump_value, name_of};
+ghost use Rattle.pam_released.specs.Control.{action_at, action_of_bits, action_of_int, action_of_number, after_spaces, begins, equals_at};
+ghost use Rattle.pam_released.specs.Control.{is_space, jump_at, jump_over, name_of};
+ghost use Rattle.pam_released.specs.inner.Numbers.{value_or_more};
 ghost use Rattle.pam_released.specs.Control.{all_bad, released_actions, subject_at};
 ghost use Rattle.pam_released.specs.Rules.{control_actions};
 ghost use Rattle.pam_released.specs.inner.Pair.{code_after, pair_at};
 
+use crate::release::Release;
 use pam_codes::{Action, CODES, Code, Control, Subject};
 
 /// The longest jump that is stored. A longer one is stored as this one, since no list has as many items.
 const MOST_ITEMS: u64 = 999_999_999;
+
+/// The largest `int` of C.
+const LARGEST_INT: u64 = 2_147_483_647;
+
+/// The numbers of 32 bits.
+const BITS: u64 = 4_294_967_296;
 
 /// `isspace`.
 fn is_space(byte: u8) -> bool
@@ -114,36 +123,96 @@ fn digits_len(text: &[u8]) -> usize
     text.iter().take_while(|byte| byte.is_ascii_digit()).count()
 }
 
-/// The value of digits, or `MOST_ITEMS` if it is more.
-fn jump_value(digits: &[u8]) -> u64
-    ensures value { result ≡ jump_value digits.now }
-    ensures bound { result ≤ 999999999 }
+/// The last 32 bits of the value of digits.
+fn last_bits(digits: &[u8]) -> u64
+    ensures { result ≡ decimal_value digits.now % 4294967296 }
+{
+    let mut bits = 0;
+    for digit in digits {
+        bits = (10 * bits + u64::from(digit.saturating_sub(b'0'))) % BITS;
+    }
+    bits
+}
+
+/// The value of digits, or `BITS` if it is more.
+fn value_or_more(digits: &[u8]) -> u64
+    ensures { result ≡ value_or_more digits.now }
 {
     let mut value = 0;
     for digit in digits {
-        value = MOST_ITEMS.min(10 * value + u64::from(digit.saturating_sub(b'0')));
+        value = BITS.min(10 * value + u64::from(digit.saturating_sub(b'0')));
     }
     value
 }
 
-/// The jump at the start of the text, and the remaining bytes; `None` for a jump over no items.
+fn jump_over(items: u64) -> Action
+    requires { 0 < items }
+    ensures action { result ≡ jump_over items }
+    ensures bound { IsAction result }
+{
+    Action::Jump(MOST_ITEMS.min(items) as u32)
+}
+
+/// The action that 1.5.2 makes of a number, by its last 32 bits.
+fn action_of_bits(bits: u64) -> Option<Action>
+    ensures value { result ≡ action_of_bits bits }
+    ensures action { IfSome result IsAction }
+{
+    if bits == 0 {
+        return None;
+    }
+    if bits <= LARGEST_INT {
+        return Some(jump_over(bits));
+    }
+    Some(match bits {
+        4_294_967_295 => Action::Ok,
+        4_294_967_294 => Action::Done,
+        4_294_967_292 => Action::Die,
+        4_294_967_291 => Action::Reset,
+        _ => Action::Bad,
+    })
+}
+
+/// The action that 1.7.0 makes of a number.
+fn action_of_int(number: u64) -> Option<Action>
+    ensures value { result ≡ action_of_int number }
+    ensures action { IfSome result IsAction }
+{
+    if number == 0 || number > LARGEST_INT {
+        return None;
+    }
+    Some(jump_over(number))
+}
+
+/// The action that a release makes of the number with these digits.
+fn action_of_number(release: Release, digits: &[u8]) -> Option<Action>
+    ensures value { result ≡ action_of_number release (decimal_value digits.now) }
+    ensures action { IfSome result IsAction }
+{
+    match release {
+        Release::Older => action_of_bits(last_bits(digits)),
+        Release::Newer => action_of_int(value_or_more(digits)),
+    }
+}
+
+/// The action of the number at the start of the text, and the remaining bytes; `None` where there is none, or it is a fault.
 #[tactic(auto, unfolding(crate::specs::Control::jump_at))]
-fn jump_at(text: &[u8]) -> Option<(Action, &[u8])>
-    ensures value { option_map (λ p. (p.0, p.1.now)) result ≡ jump_at text.now }
+fn jump_at(release: Release, text: &[u8]) -> Option<(Action, &[u8])>
+    ensures value { option_map (λ p. (p.0, p.1.now)) result ≡ jump_at release text.now }
     ensures action { IfSome result (λ p. IsAction p.0) }
     ensures shorter { IfSome result (λ p. length p.1.now ≤ length text.now) }
 {
     let (digits, rest) = text.split_at(digits_len(text));
-    match jump_value(digits) {
-        0 => None,
-        items => Some((Action::Jump(items as u32), rest)),
+    match action_of_number(release, digits) {
+        Some(action) => Some((action, rest)),
+        None => None,
     }
 }
 
-/// What the text begins with: the name of an action, or a jump; and the bytes after it.
+/// What the text begins with: the name of an action, or a number; and the bytes after it.
 #[tactic(auto, unfolding(crate::specs::Control::action_at))]
-fn action_at(text: &[u8]) -> Option<(Action, &[u8])>
-    ensures value { option_map (λ p. (p.0, p.1.now)) result ≡ action_at text.now }
+fn action_at(release: Release, text: &[u8]) -> Option<(Action, &[u8])>
+    ensures value { option_map (λ p. (p.0, p.1.now)) result ≡ action_at release text.now }
     ensures action { IfSome result (λ p. IsAction p.0) }
     ensures shorter { IfSome result (λ p. length p.1.now ≤ length text.now) }
 {
@@ -160,13 +229,13 @@ fn action_at(text: &[u8]) -> Option<(Action, &[u8])>
     } else if let Some(rest) = after_name(b"reset", text) {
         Some((Action::Reset, rest))
     } else {
-        jump_at(text)
+        jump_at(release, text)
     }
 }
 
 /// The pair at the start of the text, and the bytes after it; `None` if it has a fault.
-fn pair_at(text: &[u8]) -> Option<(Subject, Action, &[u8])>
-    ensures value { option_map (λ p. ((p.0, p.1), p.2.now)) result ≡ pair_at text.now }
+fn pair_at(release: Release, text: &[u8]) -> Option<(Subject, Action, &[u8])>
+    ensures value { option_map (λ p. ((p.0, p.1), p.2.now)) result ≡ pair_at release text.now }
     ensures action { IfSome result (λ p. IsAction p.1) }
     ensures shorter { IfSome result (λ p. length p.2.now < length text.now) }
 {
@@ -176,7 +245,7 @@ fn pair_at(text: &[u8]) -> Option<(Subject, Action, &[u8])>
     let Some(rest) = equals_at(after_spaces(rest)) else {
         return None;
     };
-    let Some((action, rest)) = action_at(after_spaces(rest)) else {
+    let Some((action, rest)) = action_at(release, after_spaces(rest)) else {
         return None;
     };
     Some((subject, action, rest))
@@ -190,14 +259,14 @@ pub(crate) fn all_bad() -> Control
 }
 
 /// The control with the inside of brackets: all actions are bad where it has a fault.
-fn bracket_control(inside: &[u8]) -> Control
-    ensures { result ≡ released_actions inside.now }
+fn bracket_control(release: Release, inside: &[u8]) -> Control
+    ensures { result ≡ released_actions release inside.now }
 {
     let mut named = [None; CODES];
     let mut default = None;
     let mut rest = after_spaces(inside);
     while !rest.is_empty() {
-        let Some((subject, action, after)) = pair_at(rest) else {
+        let Some((subject, action, after)) = pair_at(release, rest) else {
             return all_bad();
         };
         rest = after_spaces(after);
@@ -211,11 +280,11 @@ fn bracket_control(inside: &[u8]) -> Control
 }
 
 /// The control with this text: a keyword, or the inside of brackets.
-pub(crate) fn control(text: &[u8]) -> Control
-    ensures { result ≡ control_actions text.now }
+pub(crate) fn control(release: Release, text: &[u8]) -> Control
+    ensures { result ≡ control_actions release text.now }
 {
     match Control::read(text) {
         Ok(control) if !text.starts_with(b"[") => control,
-        _ => bracket_control(text),
+        _ => bracket_control(release, text),
     }
 }

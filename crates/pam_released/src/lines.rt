@@ -4,7 +4,7 @@ ghost use Rattle.std.specs.Prelude.{◌≡◌, ◌==◌, ◌+◌, ◌*◌, ◌<�
 ghost use Rattle.std.specs.List.{list_all, prefix_len};
 ghost use Rattle.pam_released.specs.Bracket.{begins_in_blank, part};
 ghost use Rattle.pam_released.specs.Findings.{ends_in_blank};
-ghost use Rattle.pam_released.specs.Lines.{before_hash, ends_in_backslash, goes_on, has_hash, is_blank_line, is_space_or_tab};
+ghost use Rattle.pam_released.specs.Lines.{before_hash, ends_in_backslash, ends_in_feed, goes_on, has_hash, is_blank_line, is_space_or_tab};
 ghost use Rattle.pam_released.specs.Lines.{physical_lines, without_end_blanks};
 
 use memchr::memchr;
@@ -93,6 +93,16 @@ pub(crate) fn are_blank_lines(bytes: &[u8]) -> bool
         rest = after;
     }
     true
+}
+
+/// Whether the last byte is a line feed.
+pub(crate) fn ends_in_feed(bytes: &[u8]) -> bool
+    ensures { result ≡ ends_in_feed bytes.now }
+{
+    match bytes.split_last() {
+        Some((last, _)) => *last == b'\n',
+        None => false,
+    }
 }
 
 pub(crate) fn ends_in_backslash(line: &[u8]) -> bool

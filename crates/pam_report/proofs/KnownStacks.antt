@@ -1,5 +1,5 @@
 -- What is answered about a known stack, from the contract of the call that finds it.
-use Rattle.std.proofs.Common.{◌≡◌, ◌∙◌, ℕ, List, None, Option, Result, Ok, Err, ap, refl, subst, sym}
+use Rattle.std.proofs.Common.{◌≡◌, ◌∙◌, ℕ, List, None, Some, Option, Result, Ok, Err, ap, refl, subst, sym, true}
 use Rattle.std.specs.Prelude.{IfErr, is_some}
 use Rattle.jiff.specs.Types.{DateTime}
 use Rattle.pam_conf.specs.Stack.{Items, module_count}
@@ -7,6 +7,11 @@ use Rattle.pam_conf.specs.declared.conf_error.ConfError.{ConfError}
 use Rattle.pam_conf.specs.declared.error.FaultKind.{FaultKind}
 use Rattle.pam_conf.specs.declared.error.FaultKind.TheVariants as conf
 use Rattle.pam_conf.specs.declared.rule.Kind.{Kind}
+use Rattle.pam_facts.specs.Error.{TellsFault}
+use Rattle.pam_facts.specs.Rows.{Row}
+use Rattle.pam_facts.specs.declared.error.FactsError.{FactsError}
+use Rattle.pam_facts.specs.declared.error.FactsFault.{FactsFault}
+use Rattle.pam_facts.specs.declared.error.FactsFault.TheVariants as facts
 use Rattle.pam_facts.specs.known.Answers.{IsFault, IsTableFault as IsFaultOfTable, IsTimeFault as IsFaultOfTime}
 use Rattle.pam_facts.specs.known.Knowledge.{Agree, Knows, allows_codes}
 use Rattle.pam_facts.specs.known.Reads.{tables_read}
@@ -22,18 +27,19 @@ use Rattle.pam_tables.specs.declared.error.TableFault.TheVariants as tables
 use Rattle.pam_tables.specs.declared.times.error.TimeError.{TimeError}
 use Rattle.pam_tables.specs.declared.times.error.TimeFault.{TimeFault}
 use Rattle.pam_tables.specs.declared.times.error.TimeFault.TheVariants as times
-use Rattle.pam_report.specs.Fault.{known_fault}
+use Rattle.pam_report.specs.Fault.{fault_of_facts, facts_fault, known_fault}
 use Rattle.pam_report.proofs.Wanting.{wanted-given}
 use Rattle.pam_report.specs.Inputs.{tables_given}
-use Rattle.pam_report.specs.inner.Known.{AreCodesOf, FindsKnown, IsErrOf, IsFaultOf, IsFaultOfRead, with_time}
-use Rattle.pam_report.specs.KnownStack.{IsAnswerFrom, KnownItems, known_items}
+use Rattle.pam_report.specs.inner.Known.{AreCodesOf, FindsKnown, FindsStack, IsErrOf, IsFaultOf, IsFaultOfRead, with_time}
+use Rattle.pam_report.specs.KnownStack.{IsAnswerFrom, KnownItems, known_items, rows_read, with_facts}
 use Rattle.pam_report.specs.Finds.{Finds, IsConfFault, IsTableFault, IsTimeFault, Refuses}
-use Rattle.pam_report.specs.Memory.{IsWanting, of_paths, paths_tables}
+use Rattle.pam_report.specs.Memory.{IsWanting, Wants, of_paths, paths_tables}
 use Rattle.pam_report.specs.Reply.{Answer}
 use Rattle.pam_report.specs.declared.fault.Fault.{Fault}
 use Rattle.pam_report.specs.declared.fault.Fault.TheVariants as faults
 use Rattle.pam_report.specs.declared.inputs.Inputs.{Inputs}
 use Rattle.pam_report.specs.declared.inputs.Inputs.TheVariants as inputs
+use Rattle.pam_report.specs.declared.report.known_stack.KnownStack.{KnownStack}
 use Rattle.pam_report.specs.declared.report.replies.Reply.{Reply}
 
 -- ---- what the tables tell
@@ -71,28 +77,55 @@ finds-ok items told found h = record {
 
 -- ---- tables
 
-with_its : (given : Inputs) (moment : Option DateTime) → with_time (tables_given given None) (tables_given given moment).time ≡ tables_given given moment
-with_its (inputs.Paths files given) moment = refl
-with_its (inputs.Host files paths given) moment = refl
-with_its (inputs.Sides old new facts returns) moment = refl
-with_its inputs.Nothing moment = refl
-with_its (inputs.Stack files) moment = refl
-with_its (inputs.Access table groups) moment = refl
-with_its (inputs.Time table) moment = refl
+with_its : (given : Inputs) (facts : Option (List Row)) (moment : Option DateTime)
+    → with_time (tables_given given facts None) (tables_given given None moment).time ≡ tables_given given facts moment
+with_its (inputs.Paths files given) facts moment = refl
+with_its (inputs.Host files paths given) facts moment = refl
+with_its (inputs.Sides old new file returns) facts moment = refl
+with_its inputs.Nothing facts moment = refl
+with_its (inputs.Stack files) facts moment = refl
+with_its (inputs.Access table groups) facts moment = refl
+with_its (inputs.Time table) facts moment = refl
 
 -- the tables of these inputs at a moment
-pub tables-are : (given : Inputs) (moment : Option DateTime) (tables : TablesText) (time : Option TimedText)
-    → tables ≡ with_time (tables_given given None) time → time ≡ (tables_given given moment).time → tables ≡ tables_given given moment
-tables-are given moment tables time e f = e ∙ ap (λ (t : Option TimedText). with_time (tables_given given None) t) f ∙ with_its given moment
+pub tables-are : (given : Inputs) (facts : Option (List Row)) (moment : Option DateTime) (tables : TablesText) (time : Option TimedText)
+    → tables ≡ with_time (tables_given given facts None) time → time ≡ (tables_given given None moment).time → tables ≡ tables_given given facts moment
+tables-are given facts moment tables time e f =
+    e ∙ ap (λ (t : Option TimedText). with_time (tables_given given facts None) t) f ∙ with_its given facts moment
 
 -- ---- want of memory
 
-pub wants-read : (kind : Kind) (given : Inputs) (moment : Option DateTime) (items : Items) (result : Result Known Fault)
-    → IfErr result (IsFaultOfRead (tables_read kind (tables_given given moment) items))
+pub wants-read : (kind : Kind) (given : Inputs) (facts : Option (List Row)) (moment : Option DateTime) (items : Items) (result : Result Known Fault)
+    → IfErr result (IsFaultOfRead (tables_read kind (tables_given given facts moment) items))
     → IfErr result (IsWanting (of_paths (paths_tables (is_some moment) given)))
-wants-read kind given moment items (Ok found) h = tt
-wants-read kind given moment items (Err fault) h =
-    subst (λ (f : Fault). IsWanting (of_paths (paths_tables (is_some moment) given)) f) (sym h.1) (wanted-given kind given moment items h.0 h.2)
+wants-read kind given facts moment items (Ok found) h = tt
+wants-read kind given facts moment items (Err fault) h =
+    subst (λ (f : Fault). IsWanting (of_paths (paths_tables (is_some moment) given)) f) (sym h.1) (wanted-given kind given facts moment items h.0 h.2)
+
+-- ---- facts
+
+-- the facts that are asked are read
+pub facts-read : (told : Result (List Row) FactsError) (rows : List Row) (found : Result KnownStack Fault) (next : Option (List Row) → Result KnownItems Fault)
+    → told ≡ Ok rows → FindsStack found (next (Some rows)) → FindsStack found (with_facts (rows_read told) next)
+facts-read told rows found next read h = subst (λ (t : Result (List Row) FactsError). FindsStack found (with_facts (rows_read t) next)) (sym read) h
+
+-- or their file has a fault
+module _ (told : Result (List Row) FactsError) (next : Option (List Row) → Result KnownItems Fault) (e : FactsError) where
+  unread-as : (fault : FactsFault) → e.fault ≡ fault → TellsFault fault e told → IsFaultOf (with_facts (rows_read told) next) (fault_of_facts fault e)
+  unread-as facts.Memory same h = tt
+  unread-as _ same h =
+      subst (λ (t : Result (List Row) FactsError). with_facts (rows_read t) next ≡ Err (faults.Facts e)) (sym h)
+      (ap (λ (f : FactsFault). Err (fault_of_facts f e)) same)
+
+  pub facts-unread : TellsFault e.fault e told → IsFaultOf (with_facts (rows_read told) next) (facts_fault e)
+  facts-unread h = unread-as e.fault refl h
+
+wanting-as : (wants : Wants) (e : FactsError) (fault : FactsFault) → e.fault ≡ fault → wants.work ≡ true → IsWanting wants (fault_of_facts fault e)
+wanting-as wants e facts.Memory same work = work
+wanting-as wants e _ same work = λ memory. absurd (cc)
+
+pub facts-wanting : (wants : Wants) (e : FactsError) → wants.work ≡ true → IsWanting wants (facts_fault e)
+facts-wanting wants e work = wanting-as wants e e.fault refl work
 
 -- ---- what is answered
 

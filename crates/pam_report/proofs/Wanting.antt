@@ -1,10 +1,11 @@
 -- Want of memory of the tables of `paths`.
-use Rattle.std.proofs.Common.{◌≡◌, ◌&&◌, true, refl, subst}
+use Rattle.std.proofs.Common.{◌≡◌, ◌&&◌, List, true, refl, subst}
 use Rattle.std.specs.Prelude.{Option, Some, None, is_some, option_map}
 use Rattle.jiff.specs.Types.{DateTime}
 use Rattle.pam_conf.specs.Stack.{Items}
 use Rattle.pam_conf.specs.declared.rule.Kind.{Kind}
 use Rattle.pam_facts.proofs.KnownProofs.ReadTables.{read_is_given}
+use Rattle.pam_facts.specs.Rows.{Row}
 use Rattle.pam_facts.specs.known.Reads.{IsOfRead, TablesRead, is_read, tables_read}
 use Rattle.pam_facts.specs.known.inner.Sets.{all_given}
 use Rattle.pam_facts.specs.declared.known.error.KnownError.{KnownError}
@@ -37,24 +38,25 @@ wanted : (given : TablesRead) (e : KnownError) → IsOfRead given e → IsWantin
 wanted given (known.Table e) h = λ memory. table_wanted given e.table h
 wanted given (known.Time e) h = λ memory. h
 
-given_are : (inputs : Inputs) (moment : Option DateTime) → all_given (tables_given inputs moment) ≡ paths_tables (is_some moment) inputs
-given_are (inputs.Paths files given) moment =
+given_are : (inputs : Inputs) (facts : Option (List Row)) (moment : Option DateTime)
+    → all_given (tables_given inputs facts moment) ≡ paths_tables (is_some moment) inputs
+given_are (inputs.Paths files given) facts moment =
     rw (
       map_is (λ t. t.bytes.items) given.tables.groups,
       map_is (λ t. t.bytes.items) given.tables.access,
       map_is (λ b. b.items) given.returns,
       time_is given.tables.time moment,
     ) refl
-given_are (inputs.Host files paths given) moment = refl
-given_are (inputs.Sides old new facts returns) moment = refl
-given_are inputs.Nothing moment = refl
-given_are (inputs.Stack files) moment = refl
-given_are (inputs.Access table groups) moment = refl
-given_are (inputs.Time table) moment = refl
+given_are (inputs.Host files paths given) facts moment = refl
+given_are (inputs.Sides old new file returns) facts moment = refl
+given_are inputs.Nothing facts moment = refl
+given_are (inputs.Stack files) facts moment = refl
+given_are (inputs.Access table groups) facts moment = refl
+given_are (inputs.Time table) facts moment = refl
 
 -- a fault of the tables that are read for a stack
-pub wanted-given : (kind : Kind) (inputs : Inputs) (moment : Option DateTime) (items : Items) (e : KnownError)
-    → IsOfRead (tables_read kind (tables_given inputs moment) items) e → IsWanting (of_paths (paths_tables (is_some moment) inputs)) (known_fault e)
-wanted-given kind inputs moment items e h =
-    subst (λ (given : TablesRead). IsWanting (of_paths given) (known_fault e)) (given_are inputs moment)
-    (wanted (all_given (tables_given inputs moment)) e (read_is_given kind (tables_given inputs moment) items e h))
+pub wanted-given : (kind : Kind) (inputs : Inputs) (facts : Option (List Row)) (moment : Option DateTime) (items : Items) (e : KnownError)
+    → IsOfRead (tables_read kind (tables_given inputs facts moment) items) e → IsWanting (of_paths (paths_tables (is_some moment) inputs)) (known_fault e)
+wanted-given kind inputs facts moment items e h =
+    subst (λ (given : TablesRead). IsWanting (of_paths given) (known_fault e)) (given_are inputs facts moment)
+    (wanted (all_given (tables_given inputs facts moment)) e (read_is_given kind (tables_given inputs facts moment) items e h))

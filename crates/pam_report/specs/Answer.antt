@@ -25,6 +25,7 @@ use Rattle.pam_tables.specs.times.Times.{Rule, answer_of as time_answer_of}
 use Rattle.pam_tables.specs.declared.times.error.TimeError.{TimeError}
 use Rattle.pam_tables.specs.declared.times.moments.MomentError.{MomentError}
 use Rattle.pam_facts.specs.settings.Settings.{SettingText, setting_view}
+use Rattle.pam_words.specs.declared.wanted.Answers.{Answers}
 use Rattle.pam_words.specs.declared.wanted.Login.{Login}
 use Rattle.pam_words.specs.declared.wanted.ReleaseName.{ReleaseName}
 use Rattle.pam_words.specs.declared.wanted.Task.{Task}
@@ -35,7 +36,7 @@ use Rattle.pam_report.specs.Compare.{IsCompare}
 use Rattle.pam_report.specs.Decide.{asked_modules}
 use Rattle.pam_report.specs.Graph.{IsGraphReply}
 use Rattle.pam_report.specs.Inputs.{access_given, files_given, group_file, groups_in, no_files, there_given, time_given}
-use Rattle.pam_report.specs.KnownStack.{KnownItems, known_stack}
+use Rattle.pam_report.specs.KnownStack.{KnownItems, facts_asked, known_stack, with_facts}
 use Rattle.pam_report.specs.Finds.{Finds}
 use Rattle.pam_report.specs.Memory.{WantsOnly, wants}
 use Rattle.pam_report.specs.Moments.{IsGivenMoment, IsMoment}
@@ -136,9 +137,10 @@ abbrev pub login_at : List ℕ → Login → LoginText
 login_at service login = login_in (map to_ascii_lowercase service) login
 
 -- the stack of a service for a kind, from these files, with the codes that its modules may return to a login at a moment
-abbrev pub stack_at : List ℕ → Kind → Login → List SettingText → Inputs → Option (Result DateTime MomentError) → Folder → Result KnownItems Fault
-stack_at service kind login settings inputs moment files =
-    with_settings files (there_given inputs) settings (known_stack kind (login_at service login) inputs moment (resolved files service kind))
+abbrev pub stack_at : List ℕ → Kind → Login → Answers → List SettingText → Inputs → Option (Result DateTime MomentError) → Folder → Result KnownItems Fault
+stack_at service kind login answers settings inputs moment files =
+    with_settings files (there_given inputs) settings
+    (with_facts (facts_asked answers inputs) (λ facts. known_stack kind (login_at service login) inputs facts moment (resolved files service kind)))
 
 -- what a call gives that answers a task for a service with these candidates, from these files and the tables of these inputs, if this is what it
 -- gives for an answer that satisfies a relation
@@ -156,11 +158,11 @@ module _ (Gives : (Answer → Type 0) → Type 0) where
       (at : Option (Result DateTime MomentError)) × IsGivenMoment knowledge.moment at
       × Gives
       (IsPage (record { service = service; kind = kind; limit = limit; part = part; filter = filter })
-      (stack_at service kind knowledge.login (map setting_view knowledge.settings.items) inputs at files))
+      (stack_at service kind knowledge.login knowledge.answers (map setting_view knowledge.settings.items) inputs at files))
   AnswersBy service candidates (Outcomes source kind knowledge) files inputs =
       (at : Option (Result DateTime MomentError)) × IsGivenMoment knowledge.moment at
       × Gives (IfServices (has_service files service)
-      (IsOutcomes service kind (stack_at service kind knowledge.login (map setting_view knowledge.settings.items) inputs at files)))
+      (IsOutcomes service kind (stack_at service kind knowledge.login knowledge.answers (map setting_view knowledge.settings.items) inputs at files)))
   AnswersBy service candidates (Check source services fail_on named) files inputs =
       Gives (IfServices (has_services files services)
       (IfUsed (first_unused files services candidates) (IsCheck services fail_on named files inputs)))
@@ -173,7 +175,8 @@ module _ (Gives : (Answer → Type 0) → Type 0) where
   AnswersBy service candidates (Graph source kind format knowledge) files inputs =
       (at : Option (Result DateTime MomentError)) × IsGivenMoment knowledge.moment at
       × Gives (IfServices (has_service files service)
-      (IsGraphReply format service kind (stack_at service kind knowledge.login (map setting_view knowledge.settings.items) inputs at files)))
+      (IsGraphReply format service kind
+      (stack_at service kind knowledge.login knowledge.answers (map setting_view knowledge.settings.items) inputs at files)))
 
 -- THE REPLY to a task for a service with these candidates, from these inputs
 abbrev pub Replies : Result Reply Fault → List ℕ → List CandidateText → Task → Inputs → Type 0

@@ -51,6 +51,7 @@ usage_row usage.LevelName = row (codes "U13 LevelName") 2
 usage_row usage.ReleaseForm = row (codes "U16 ReleaseForm") 2
 usage_row usage.SettingForm = row (codes "U17 SettingForm") 2
 usage_row usage.CandidateForm = row (codes "U15 CandidateForm") 2
+usage_row usage.AnswersName = row (codes "U20 AnswersName") 2
 
 -- ---- the configuration
 

@@ -6,10 +6,12 @@ use Rattle.std.specs.Global.{Global}
 use Rattle.jiff.specs.Types.{DateTime}
 use Rattle.pam_conf.specs.Files.{Folder}
 use Rattle.pam_conf.specs.declared.rule.Form.TheVariants.{Dir}
+use Rattle.pam_facts.specs.Rows.{Row}
 use Rattle.pam_facts.specs.known.Tables.{TablesText, TimedText}
 use Rattle.pam_findings.specs.tables.Tables.{TablesText as HostTablesText}
 use Rattle.pam_tables.specs.Groups.{Group, groups_of}
 use Rattle.pam_tables.specs.declared.error.TableFault.{TableFault}
+use Rattle.pam_words.specs.Wanted.{facts_named}
 use Rattle.pam_words.specs.declared.wanted.Task.{Task}
 use Rattle.pam_words.specs.declared.wanted.KnowledgeSource.{KnowledgeSource}
 use Rattle.pam_words.specs.declared.wanted.TableNames.{TableNames}
@@ -64,10 +66,11 @@ abbrev pub returns_given : Inputs → Option (List ℕ)
 returns_given (inputs.Sides old new facts returns) = option_map (λ b. b.items) returns
 returns_given _ = None
 
--- the facts file of `check` and `compare` and the accept file of `check`, which are empty where none is named
+-- the facts file, and the accept file of `check`, which are empty where none is named
 abbrev pub facts_given : Inputs → List ℕ
 facts_given (inputs.Host files paths given) = option_map_or (λ b. b.items) given.facts []
 facts_given (inputs.Sides old new facts returns) = option_map_or (λ b. b.items) facts []
+facts_given (inputs.Paths files given) = option_map_or (λ b. b.items) given.facts []
 facts_given _ = []
 
 abbrev pub accept_given : Inputs → List ℕ
@@ -138,9 +141,11 @@ fits_check named given =
     beq (is_some given.facts) (is_some named.facts)
     && (beq (is_some given.accept) (is_some named.accept) && has_named_tables named.tables given.tables)
 
--- a configuration, the contents of exactly the returns file that is named, and those of each table that is named
+-- a configuration, the contents of exactly the facts file and the returns file that are named, and those of each table that is named
 abbrev pub fits_knowledge : KnowledgeSource → Inputs → Bool
-fits_knowledge named (inputs.Paths files given) = beq (is_some given.returns) (is_some named.returns) && has_named_tables named.tables given.tables
+fits_knowledge named (inputs.Paths files given) =
+    beq (is_some given.facts) (is_some (facts_named named.answers))
+    && (beq (is_some given.returns) (is_some named.returns) && has_named_tables named.tables given.tables)
 fits_knowledge named _ = false
 
 -- the contents of exactly the facts file and the returns file that are named
@@ -172,15 +177,16 @@ timed (Some table) None = None
 timed None moment = None
 
 abbrev pub no_tables : TablesText
-no_tables = record { there = None; groups = None; access = None; time = None; returns = None }
+no_tables = record { there = None; groups = None; access = None; time = None; returns = None; facts = None }
 
--- the tables of the commands about paths, and which modules are there
-abbrev pub tables_given : Inputs → Option DateTime → TablesText
-tables_given (inputs.Paths files given) moment = record {
+-- the tables of the commands about paths, which modules are there, and what is known of them, if that is asked
+abbrev pub tables_given : Inputs → Option (List Row) → Option DateTime → TablesText
+tables_given (inputs.Paths files given) facts moment = record {
   there = given.there;
   groups = bytes_of_table given.tables.groups;
   access = bytes_of_table given.tables.access;
   time = timed given.tables.time moment;
   returns = option_map (λ b. b.items) given.returns;
+  facts = facts;
 }
-tables_given _ moment = no_tables
+tables_given _ facts moment = record no_tables { facts = facts }

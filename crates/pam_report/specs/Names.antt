@@ -37,13 +37,14 @@ problem_name (problems.NoModule is_dashed) = codes "S5 NoModule"
 problem_name problems.NoOther = codes "S6 NoOther"
 problem_name problems.UnreachableName = codes "S7 UnreachableName"
 problem_name (problems.TooLarge service kind) = codes "S9 TooLarge"
-problem_name (problems.OtherAnswers service kind) = codes "S10 OtherAnswers"
+problem_name (problems.OtherAnswers service kind has_no_rule lets_nobody_in) = codes "S10 OtherAnswers"
 problem_name problems.LeftOver = codes "S11 LeftOver"
 problem_name problems.JumpIntoInclude = codes "S12 JumpIntoInclude"
 problem_name problems.NoFunction = codes "S13 NoFunction"
-problem_name problems.CallerIsRoot = codes "S14 CallerIsRoot"
+problem_name (problems.CallerIsRoot is_daemon) = codes "S14 CallerIsRoot"
 problem_name (problems.Argument argument wrong) = argument_name wrong
 problem_name (problems.BadArguments lack) = codes "S19 BadArguments"
+problem_name (problems.NotCounted counts) = codes "S22 NotCounted"
 problem_name problems.UnknownModule = codes "S25 UnknownModule"
 problem_name problems.SuccessNeverCounts = codes "S26 SuccessNeverCounts"
 
@@ -52,5 +53,5 @@ abbrev pub stack_of : Problem → Option (ℕ × Kind)
 stack_of (problems.LetsNobodyIn service kind) = Some (service, kind)
 stack_of (problems.LetsAnybodyIn service) = Some (service, Auth)
 stack_of (problems.TooLarge service kind) = Some (service, kind)
-stack_of (problems.OtherAnswers service kind) = Some (service, kind)
+stack_of (problems.OtherAnswers service kind has_no_rule lets_nobody_in) = Some (service, kind)
 stack_of problem = None

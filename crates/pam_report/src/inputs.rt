@@ -6,8 +6,8 @@ mod fits;
 mod given;
 mod known_tables;
 
-pub(crate) use known_tables::{tables_with, timed_given};
-use pam_conf::Files;
+pub(crate) use known_tables::{Given, tables_with, timed_given};
+use pam_conf::{Files, NameList};
 use pam_text::Texts;
 use std::alloc::{AllocError, AllocFailed};
 use thiserror::Error;
@@ -63,7 +63,7 @@ pub struct CheckInputs {
     /// The position from which on the files are those that only the second folder has; without a second folder the number of files.
     pub vendor_start: usize,
     /// The paths at which a module is there, as rules write them; `None` if that is not known.
-    pub there: Option<Texts>,
+    pub there: Option<NameList>,
     /// The tables that are named, and those of a root that are there.
     pub tables: TableFiles,
     /// The contents of the facts file, if one is named.
@@ -76,9 +76,11 @@ pub struct CheckInputs {
 #[derive(Drop)]
 pub struct KnowledgeInputs {
     /// The paths at which a module is there, as rules write them; `None` if that is not known.
-    pub there: Option<Texts>,
+    pub there: Option<NameList>,
     /// The tables that are named, and those of a root that are there.
     pub tables: TableFiles,
+    /// The contents of the facts file, if one is named and it is asked what is possible.
+    pub facts: Option<Vec<u8>>,
     /// The contents of the returns file, if one is named.
     pub returns: Option<Vec<u8>>,
 }
@@ -88,7 +90,7 @@ pub struct KnowledgeInputs {
 pub struct SideInputs {
     pub files: Files,
     /// The paths at which a module is there, as rules write them; `None` if that is not known.
-    pub there: Option<Texts>,
+    pub there: Option<NameList>,
 }
 
 /// The contents of the files that a request names, and of the tables of a root. Where neither gives a file, it is `None`.

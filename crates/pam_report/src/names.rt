@@ -53,9 +53,10 @@ pub fn problem_name(problem: Problem) -> &'static str
         Problem::LeftOver => "S11 LeftOver",
         Problem::JumpIntoInclude => "S12 JumpIntoInclude",
         Problem::NoFunction => "S13 NoFunction",
-        Problem::CallerIsRoot => "S14 CallerIsRoot",
+        Problem::CallerIsRoot { .. } => "S14 CallerIsRoot",
         Problem::Argument { wrong, .. } => argument_name(wrong),
         Problem::BadArguments(_) => "S19 BadArguments",
+        Problem::NotCounted { .. } => "S22 NotCounted",
         Problem::UnknownModule => "S25 UnknownModule",
         Problem::SuccessNeverCounts => "S26 SuccessNeverCounts",
     }
@@ -68,7 +69,7 @@ pub fn stack_of(problem: Problem) -> Option<(usize, Kind)>
     match problem {
         Problem::LetsNobodyIn { service, kind }
         | Problem::TooLarge { service, kind }
-        | Problem::OtherAnswers { service, kind } => Some((service, kind)),
+        | Problem::OtherAnswers { service, kind, .. } => Some((service, kind)),
         Problem::LetsAnybodyIn { service } => Some((service, Kind::Auth)),
         _ => None,
     }

@@ -126,6 +126,7 @@ fn sources_of<'x, 's>(
 ) -> Sources<'x, 's>
     ensures files { result.files.now ≡ files.now }
     ensures inputs { result.inputs.now ≡ inputs.now }
+    ensures answers { result.answers ≡ knowledge.now.answers }
     ensures settings { result.settings.now ≡ knowledge.now.settings.items }
     ensures moment { IsGivenMoment knowledge.now.moment result.moment }
     ensures given { is_some result.moment ≡ is_some knowledge.now.moment }
@@ -134,6 +135,7 @@ fn sources_of<'x, 's>(
         alloc,
         files,
         inputs,
+        answers: knowledge.answers,
         settings: &knowledge.settings,
         moment: given_moment(knowledge.moment),
     }

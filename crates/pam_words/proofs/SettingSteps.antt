@@ -30,6 +30,7 @@ module _ (front : List SettingText) (one : Result SettingText Refusal) (rest all
   one-refused usage.KindName h = refused spec.kind_name h
   one-refused usage.CodeName h = refused spec.code_name h
   one-refused usage.FormatName h = refused spec.format_name h
+  one-refused usage.AnswersName h = refused spec.answers_name h
   one-refused usage.LevelName h = refused spec.level_name h
   one-refused usage.Login h = refused spec.login h
   one-refused usage.Moment h = refused spec.moment h

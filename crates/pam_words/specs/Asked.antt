@@ -41,6 +41,11 @@ pub record TimeTask : Type 0 where
   pub login : LoginText
   pub moment : MomentText
 
+-- what a module may return of which nothing else tells: any code, or what is known of it, where a facts file may be named
+pub data AnswersText : Type 0 where
+  any : AnswersText
+  possible : Option Text → AnswersText
+
 -- what says which codes modules may return
 pub record KnowledgeText : Type 0 where
   pub modules : List Text
@@ -51,6 +56,7 @@ pub record KnowledgeText : Type 0 where
   pub returns : Option Text
   pub settings : List SettingText
   pub moment : Option MomentText
+  pub answers : AnswersText
 
 pub record PathsTask : Type 0 where
   pub source : SourceText
@@ -123,13 +129,14 @@ pub record RequestText : Type 0 where
   pub candidates : List (Text × Text)
   pub output : OutputForm
 
--- U2 to U6, U8, U11 to U13, U15 to U17
+-- U2 to U6, U8, U11 to U13, U15 to U17, U20
 pub data Refusal : Type 0 where
   source : Refusal
   kind_name : Refusal
   code_name : Refusal
   format_name : Refusal
   level_name : Refusal
+  answers_name : Refusal
   login : Refusal
   moment : Refusal
   both_ends : Refusal

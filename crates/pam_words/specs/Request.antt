@@ -3,14 +3,15 @@ use Rattle.std.specs.Prelude.{List, [], codes, Option, Some, None, Result, Ok, E
 use Rattle.std.specs.Str.{bytes_eq}
 use Rattle.pam_conf.specs.declared.Kind.{Kind}
 use Rattle.clap.specs.Words.{Row, Text, first_of}
-use Rattle.pam_words.specs.Asked.{KnowledgeText, MomentText, Refusal, RequestText, SourceText, TaskText}
+use Rattle.pam_words.specs.Asked.{AnswersText, KnowledgeText, MomentText, Refusal, RequestText, SourceText, TaskText}
 use Rattle.pam_words.specs.Asked.{access, check, compare, decide, explain, facts, graph, outcomes, paths, show, time, version}
-use Rattle.pam_words.specs.Asked.{both_ends, both_filters, code_name, format_name, kind_name, level_name}
+use Rattle.pam_words.specs.Asked.{answers_name, any, both_ends, both_filters, code_name, format_name, kind_name, level_name}
 use Rattle.pam_words.specs.Asked.{login, moment, release_form, source}
 use Rattle.pam_words.specs.Candidates.{services_among}
 use Rattle.pam_words.specs.Decisions.{decisions_of}
 use Rattle.pam_words.specs.Settings.{settings_of}
-use Rattle.pam_words.specs.Values.{asks_of, candidates_of, codes_of_rows, format_of, kind_if_named, kind_of_rows, lacks_user, level_of, limit_of, login_of}
+use Rattle.pam_words.specs.Values.{answers_of, asks_of, candidates_of, codes_of_rows, format_of, kind_if_named, kind_of_rows, lacks_user}
+use Rattle.pam_words.specs.Values.{level_of, limit_of, login_of}
 use Rattle.pam_words.specs.Values.{moment_of, needs_moment, one_filter, output_of, part_of, release_of, side_in, source_of, source_or_root, text_of, texts_of}
 
 -- a refusal if there is no value
@@ -84,9 +85,9 @@ abbrev pub moment_if_needed : List Row → Result (Option MomentText) Refusal
 moment_if_needed rows =
     if needs_moment rows then or_refuse (moment_of rows) moment (λ at. Ok (Some at)) else Ok None
 
--- folders of modules, a login and a moment, tables, a returns file and the codes of modules
-abbrev pub knowledge_of : List Row → Result KnowledgeText Refusal
-knowledge_of rows =
+-- folders of modules, a login and a moment, tables, a returns file, the codes of modules, and what others may return
+abbrev pub knowledge_of : AnswersText → List Row → Result KnowledgeText Refusal
+knowledge_of answers rows =
     settings_of rows >>= λ settings.
     if lacks_user rows then Err login else
     moment_if_needed rows >>= λ at.
@@ -99,14 +100,19 @@ knowledge_of rows =
       returns = first_of (codes "returns") rows;
       settings = settings;
       moment = at;
+      answers = answers;
     })
 
--- `paths SERVICE KIND`
+-- the same, with the answers that the words name
+abbrev pub possible_knowledge_of : List Row → Result KnowledgeText Refusal
+possible_knowledge_of rows = or_refuse (answers_of rows) answers_name (λ answers. knowledge_of answers rows)
+
+-- `paths SERVICE KIND`, where a module of which nothing else tells may return any code
 abbrev pub paths_task : List Row → Result TaskText Refusal
 paths_task rows =
     stack_of rows >>= λ stack.
     or_refuse (decisions_of rows) code_name (λ decisions.
-    knowledge_of rows >>= λ knowledge.
+    knowledge_of any rows >>= λ knowledge.
     or_refuse (part_of rows) both_ends (λ part.
     or_refuse (one_filter decisions (asks_of rows)) both_filters (λ filter.
     Ok (paths (record {
@@ -122,7 +128,7 @@ paths_task rows =
 abbrev pub outcomes_task : List Row → Result TaskText Refusal
 outcomes_task rows =
     stack_of rows >>= λ stack.
-    knowledge_of rows >>= λ knowledge.
+    possible_knowledge_of rows >>= λ knowledge.
     Ok (outcomes (record { source = stack.0; kind = stack.1; knowledge = knowledge }))
 
 -- `graph SERVICE KIND`
@@ -130,7 +136,7 @@ abbrev pub graph_task : List Row → Result TaskText Refusal
 graph_task rows =
     stack_of rows >>= λ stack.
     or_refuse (format_of rows) format_name (λ format.
-    knowledge_of rows >>= λ knowledge.
+    possible_knowledge_of rows >>= λ knowledge.
     Ok (graph (record { source = stack.0; kind = stack.1; format = format; knowledge = knowledge })))
 
 -- `access SERVICE [ARGUMENT]...`

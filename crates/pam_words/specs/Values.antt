@@ -10,7 +10,8 @@ use Rattle.pam_conf.specs.Rule.{kind_named}
 use Rattle.pam_conf.specs.declared.Kind.{Kind}
 use Rattle.clap.specs.ValueTests.{accepts}
 use Rattle.clap.specs.Words.{Row, Text, all_of, first_of}
-use Rattle.pam_words.specs.Asked.{LoginText, MomentText, PartText, Refusal, SourceText, after, before, civil, conf, dir, instant, over, root, whole}
+use Rattle.pam_words.specs.Asked.{AnswersText, LoginText, MomentText, PartText, Refusal, SourceText, after, any, before, civil, conf}
+use Rattle.pam_words.specs.Asked.{dir, instant, over, possible, root, whole}
 use Rattle.pam_words.specs.Candidates.{candidates_beside, files_among, given_by}
 use Rattle.pam_words.specs.Decisions.{codes_named}
 use Rattle.pam_words.specs.Words.{number_parser}
@@ -169,6 +170,22 @@ format_or_default (Some name) = format_named name
 -- the format of a drawing, which is DOT unless `--format` names another one
 abbrev pub format_of : List Row → Option GraphFormat
 format_of rows = format_or_default (first_of (codes "format") rows)
+
+-- the answers of a name. Only those that are possible need facts
+abbrev pub answers_named : Option Text → Text → Option AnswersText
+answers_named facts name =
+    if bytes_eq name (codes "any") then Some any
+    else if bytes_eq name (codes "possible") then Some (possible facts)
+    else None
+
+-- the columns are the values of `--answers` and `--facts`
+abbrev pub answers_in : Option Text → Option Text → Option AnswersText
+answers_in None facts = Some (possible facts)
+answers_in (Some name) facts = answers_named facts name
+
+-- what modules may return: what is possible, unless `--answers` says any
+abbrev pub answers_of : List Row → Option AnswersText
+answers_of rows = answers_in (first_of (codes "answers") rows) (first_of (codes "facts") rows)
 
 abbrev pub level_named : Text → Option LevelName
 level_named name =

@@ -1,12 +1,15 @@
 -- The command line: results of the library's functions, against the request that the words spell.
-use Rattle.std.specs.Prelude.{◌≡◌, ◌⊎◌, ⊤, Result, Ok, Err, [], codes, map, option_map}
+use Rattle.std.specs.Prelude.{◌≡◌, ◌⊎◌, ⊤, Option, None, Result, Ok, Err, [], codes, map, option_map}
+use Rattle.std.specs.Borrow.{Bor}
 use Rattle.std.specs.Option.{option_copied}
 use Rattle.clap.specs.Words.{IsAmong, Kinds, Text, kind_of}
 use Rattle.clap.specs.declared.error.ErrorKind.TheVariants.{DisplayHelp, DisplayVersion}
 use Rattle.clap.specs.declared.error.ErrorKind.{ErrorKind}
 use Rattle.pam_facts.specs.settings.Settings.{setting_view}
-use Rattle.pam_words.specs.Asked.{KnowledgeText, LoginText, MomentText, PartText, Refusal, RequestText, SourceText, TaskText}
+use Rattle.pam_words.specs.Asked.{AnswersText, KnowledgeText, LoginText, MomentText, PartText, Refusal, RequestText, SourceText, TaskText}
 use Rattle.pam_words.specs.Asked as spec
+use Rattle.pam_words.specs.declared.wanted.Answers.{Answers as KnownAnswers}
+use Rattle.pam_words.specs.declared.wanted.Answers.TheVariants.{Any, Possible}
 use Rattle.pam_words.specs.declared.wanted.Candidate.{Candidate}
 use Rattle.pam_words.specs.declared.wanted.ConfSource.{ConfSource}
 use Rattle.pam_words.specs.declared.wanted.ConfSource.TheVariants.{Dir, Over, Conf, Root}
@@ -42,6 +45,15 @@ part_view (Before cursor) = spec.before cursor.now
 abbrev pub login_view : Login → LoginText
 login_view login = record { user = login.user.now; rhost = login.rhost.now; tty = login.tty.now }
 
+abbrev pub answers_view : KnownAnswers → AnswersText
+answers_view Any = spec.any
+answers_view (Possible facts) = spec.possible (option_copied facts)
+
+-- the facts file that is read, if one is named: none where any code is possible
+abbrev pub facts_named : KnownAnswers → Option (Bor Text)
+facts_named Any = None
+facts_named (Possible facts) = facts
+
 abbrev pub knowledge_view : KnowledgeSource → KnowledgeText
 knowledge_view k = record {
   modules = map (λ s. s.now) k.modules.items;
@@ -52,6 +64,7 @@ knowledge_view k = record {
   returns = option_copied k.returns;
   settings = map setting_view k.settings.items;
   moment = option_map moment_view k.moment;
+  answers = answers_view k.answers;
 }
 
 abbrev pub task_view : Task → TaskText
@@ -133,6 +146,7 @@ Gives view value (Err usage.KindName) = value ≡ Err spec.kind_name
 Gives view value (Err usage.CodeName) = value ≡ Err spec.code_name
 Gives view value (Err usage.FormatName) = value ≡ Err spec.format_name
 Gives view value (Err usage.LevelName) = value ≡ Err spec.level_name
+Gives view value (Err usage.AnswersName) = value ≡ Err spec.answers_name
 Gives view value (Err usage.Login) = value ≡ Err spec.login
 Gives view value (Err usage.Moment) = value ≡ Err spec.moment
 Gives view value (Err usage.BothEnds) = value ≡ Err spec.both_ends

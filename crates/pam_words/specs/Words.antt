@@ -141,13 +141,17 @@ with_knowledge app = with_moment (with_settings (with_tables (with_login (with_r
 unfoldable pub paths_app : App
 paths_app = with_knowledge (with_filter (with_page (with_json (stack_app (codes "paths")))))
 
+-- the options that say what modules may return of which nothing else tells
+abbrev pub with_answers : App → App
+with_answers app = with_options app (codes "answers" ∷ codes "facts" ∷ [])
+
 -- `outcomes SERVICE KIND`
 unfoldable pub outcomes_app : App
-outcomes_app = with_knowledge (with_json (stack_app (codes "outcomes")))
+outcomes_app = with_knowledge (with_answers (with_json (stack_app (codes "outcomes"))))
 
 -- `graph SERVICE KIND`
 unfoldable pub graph_app : App
-graph_app = with_knowledge (with_options (stack_app (codes "graph")) (codes "format" ∷ []))
+graph_app = with_knowledge (with_answers (with_options (stack_app (codes "graph")) (codes "format" ∷ [])))
 
 -- `NAME SERVICE`, with the table given by `--NAME`, a user and a terminal
 abbrev pub login_app : Text → App

@@ -216,6 +216,13 @@ pub(crate) const FORMAT: ArgRow = ArgRow {
     help: "dot (for Graphviz), mermaid or svg; dot if left out",
 };
 
+pub(crate) const ANSWERS: ArgRow = ArgRow {
+    form: ArgForm::Optional,
+    id: "answers",
+    name: "ANSWERS",
+    help: "any or possible: what modules can return of which nothing else tells; possible if left out",
+};
+
 pub(crate) const USER: ArgRow = ArgRow {
     form: ArgForm::Optional,
     id: "user",

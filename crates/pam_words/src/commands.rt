@@ -1,9 +1,9 @@
 //! The commands and their arguments, with their help.
 
 use crate::arguments::Argument::{
-    self, Accept, Access, AccessTable, After, AreFiles, AreRoots, Asks, At, AtUnix, Before, Conf,
-    Decision, Dir, Facts, FailOn, Format, Group, HostAccess, HostTime, Json, Limit, Modules,
-    Release, Returns, Rhost, Root, Set, SetByName, TableUser, Time, TimeTable, Tty, User,
+    self, Accept, Access, AccessTable, After, Answers, AreFiles, AreRoots, Asks, At, AtUnix,
+    Before, Conf, Decision, Dir, Facts, FailOn, Format, Group, HostAccess, HostTime, Json, Limit,
+    Modules, Release, Returns, Rhost, Root, Set, SetByName, TableUser, Time, TimeTable, Tty, User,
     VendorDir, With, Zone,
 };
 use crate::arguments::Word;
@@ -108,8 +108,8 @@ pub(crate) static GRAPHS: [CommandRow; 2] = [
         about: "Counts the paths through a stack by their decisions",
         examples: examples::OUTCOMES,
         args: &[
-            SERVICE, KIND, Dir, VendorDir, Conf, Root, With, Json, Modules, User, Rhost, Tty,
-            Access, Time, Group, Returns, Set, At, AtUnix, Zone,
+            SERVICE, KIND, Dir, VendorDir, Conf, Root, With, Json, Answers, Facts, Modules, User,
+            Rhost, Tty, Access, Time, Group, Returns, Set, At, AtUnix, Zone,
         ],
     },
     CommandRow {
@@ -117,8 +117,8 @@ pub(crate) static GRAPHS: [CommandRow; 2] = [
         about: "Draws the graph of a stack",
         examples: examples::GRAPH,
         args: &[
-            SERVICE, KIND, Dir, VendorDir, Conf, Root, With, Format, Modules, User, Rhost, Tty,
-            Access, Time, Group, Returns, Set, At, AtUnix, Zone,
+            SERVICE, KIND, Dir, VendorDir, Conf, Root, With, Format, Answers, Facts, Modules, User,
+            Rhost, Tty, Access, Time, Group, Returns, Set, At, AtUnix, Zone,
         ],
     },
 ];

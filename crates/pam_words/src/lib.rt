@@ -13,7 +13,8 @@ mod words;
 
 pub use reading::request;
 pub use wanted::{
-    Candidate, CheckFiles, CompareFiles, ConfSource, GraphFormat, KnowledgeSource, LevelName,
-    Login, Moment, OutputForm, PagePart, PathFilter, ReleaseName, Request, TableNames, Task, Usage,
+    Answers, Candidate, CheckFiles, CompareFiles, ConfSource, GraphFormat, KnowledgeSource,
+    LevelName, Login, Moment, OutputForm, PagePart, PathFilter, ReleaseName, Request, TableNames,
+    Task, Usage,
 };
 pub use words::version;

@@ -103,8 +103,33 @@ pub struct TableNames<'a> {
     pub time: Option<&'a str>,
 }
 
-/// What says which codes modules may return: the folders of modules, what is set for single modules, a returns file, and the tables in
-/// which they look up a login at a moment.
+/// What a module may return of which neither a setting nor a table nor the returns file tells.
+#[derive(Clone, Copy)]
+pub enum Answers<'a> {
+    /// Any code.
+    Any,
+    /// What is known of it, by the program's own table, and then by a facts file, if one is named.
+    Possible { facts: Option<&'a str> },
+}
+
+impl<'a> Answers<'a> {
+    ghost use Rattle.std.specs.Prelude.{◌≡◌};
+    ghost use Rattle.std.specs.Option.{option_copied};
+    ghost use Rattle.pam_words.specs.Wanted.{facts_named};
+
+    /// Returns the name of the facts file that is to be read, if one is: none where any code is possible.
+    pub fn facts_file(self) -> Option<&'a str>
+        ensures { option_copied result ≡ option_copied (facts_named self.entry) }
+    {
+        match self {
+            Answers::Any => None,
+            Answers::Possible { facts } => facts,
+        }
+    }
+}
+
+/// What says which codes modules may return: the folders of modules, what is set for single modules, a returns file, the tables in
+/// which they look up a login at a moment, and what is known of the others.
 #[derive(Drop)]
 pub struct KnowledgeSource<'a> {
     /// The folders of modules. With `ConfSource::Root`, those of the system are read too.
@@ -116,6 +141,7 @@ pub struct KnowledgeSource<'a> {
     /// In the order in which they are given: of several for one module, the last counts.
     pub settings: Vec<Setting<'a>>,
     pub moment: Option<Moment<'a>>,
+    pub answers: Answers<'a>,
 }
 
 /// What a check reads besides the configuration.
@@ -265,6 +291,9 @@ pub enum Usage {
     /// U13: the value of `--fail-on` is not the name of a level.
     #[error("unknown level")]
     LevelName,
+    /// U20: the value of `--answers` is neither `any` nor `possible`.
+    #[error("unknown answers")]
+    AnswersName,
     /// U17: a value of `--set` is not KEY=CODES.
     #[error("a setting that is not KEY=CODES")]
     SettingForm,

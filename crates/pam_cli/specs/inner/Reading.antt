@@ -12,6 +12,7 @@ use Rattle.pam_report.specs.declared.inputs.CheckInputs.{CheckInputs}
 use Rattle.pam_report.specs.declared.inputs.KnowledgeInputs.{KnowledgeInputs}
 use Rattle.pam_report.specs.declared.inputs.InputError.{InputError}
 use Rattle.pam_report.specs.declared.inputs.Inputs.{Inputs}
+use Rattle.pam_words.specs.Wanted.{facts_named}
 use Rattle.pam_words.specs.declared.wanted.CompareFiles.{CompareFiles}
 use Rattle.pam_words.specs.declared.wanted.ConfSource.{ConfSource}
 use Rattle.pam_words.specs.declared.wanted.ConfSource.TheVariants.{Root}
@@ -66,8 +67,10 @@ IsGivenReading told vendor_start source named (Err error) = IsUnread (λ name. I
 -- what is known besides the configuration, for each task about paths
 abbrev pub IsKnownReading : Told → ConfSource → KnowledgeSource → Result KnowledgeInputs InputError → Type 0
 IsKnownReading told source named (Ok given) =
-    (beq (is_some given.returns) (is_some named.returns) && has_named_tables named.tables given.tables ≡ true)
-    × AreKnownTables told source named given.tables × IsFile told (option_copied named.returns) given.returns
+    (beq (is_some given.facts) (is_some (facts_named named.answers))
+    && (beq (is_some given.returns) (is_some named.returns) && has_named_tables named.tables given.tables) ≡ true)
+    × AreKnownTables told source named given.tables × IsFile told (option_copied (facts_named named.answers)) given.facts
+    × IsFile told (option_copied named.returns) given.returns
     × HasModules source named.modules.items given.there
 IsKnownReading told source named (Err error) = IsUnread (IsOfKnowledge source named) error
 

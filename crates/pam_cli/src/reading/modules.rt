@@ -11,10 +11,8 @@ use crate::host::is_of_target;
 use crate::reading::files::{look, names};
 use crate::reading::module_paths::ModulePaths;
 use crate::system::{Found, Place, System};
-use indexmap::IndexSet;
-use pam_conf::Files;
+use pam_conf::{Files, NameList};
 use pam_report::InputError;
-use pam_text::Texts;
 use pam_words::ConfSource;
 use std::alloc::{AllocError, Global};
 use std::io::ErrorKind;
@@ -70,7 +68,7 @@ fn is_below<S: System>(
 #[derive(Drop)]
 struct Modules {
     named: ModulePaths,
-    paths: IndexSet<Vec<u8>>,
+    paths: NameList,
     /// Whether any folder of modules was read.
     is_known: bool,
 }
@@ -90,19 +88,10 @@ impl Modules {
             }
             let plain = without_isa(alloc, path)?;
             if is_below(system, alloc, folder, &plain)? {
-                self.paths.insert(Vec::from_slice(alloc, path)?)?;
+                self.paths.add(alloc, path)?;
             }
         }
         Ok(())
-    }
-
-    /// Returns the paths.
-    fn into_texts(self, alloc: Global) -> Result<Texts, AllocError> {
-        let mut texts = Texts::new(alloc);
-        for path in &self.paths {
-            texts.push(path)?;
-        }
-        Ok(texts)
     }
 }
 
@@ -118,7 +107,7 @@ fn put_folder<S: System>(
 {
     for name in names(system, alloc, folder)? {
         if is_below(system, alloc, folder, &name)? {
-            found.paths.insert(name)?;
+            found.paths.add(alloc, &name)?;
         }
     }
     found.put_named(system, alloc, folder, false)?;
@@ -249,13 +238,13 @@ pub(super) fn modules_there<S: System>(
     source: ConfSource<'_>,
     folders: &[&str],
     files: &Files,
-) -> Result<Option<Texts>, InputError>
+) -> Result<Option<NameList>, InputError>
     ensures ok { IfOk result (HasModules source.entry folders.now) }
     ensures error { IfErr result (IsUnread (λ n. IsInSource source.entry n ⊎ Member n (map (λ f. f.now) folders.now))) }
 {
     let mut found = Modules {
         named: ModulePaths::of(alloc, files)?,
-        paths: IndexSet::new(alloc),
+        paths: NameList::new(alloc),
         is_known: false,
     };
     put_source(system, alloc, source, &mut found)?;
@@ -264,5 +253,5 @@ pub(super) fn modules_there<S: System>(
         return Ok(None);
     }
     found.put_named(system, alloc, root_of(source), true)?;
-    Ok(Some(found.into_texts(alloc)?))
+    Ok(Some(found.paths))
 }

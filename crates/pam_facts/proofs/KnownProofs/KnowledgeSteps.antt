@@ -14,7 +14,7 @@ use Rattle.pam_tables.specs.Returns.{ReturnLine, returns_of}
 use Rattle.pam_tables.specs.declared.error.Table.TheVariants.{Returns}
 use Rattle.pam_tables.specs.declared.error.TableError.{TableError}
 use Rattle.pam_facts.specs.known.Answers.{IsFault, read_as}
-use Rattle.pam_facts.specs.known.Knowledge.{◌>>=◌, Knows, codes_by, first_fault, groups_read, knowledge, line_at, numbers, returns_read}
+use Rattle.pam_facts.specs.known.Knowledge.{◌>>=◌, Knows, codes_by, first_fault, groups_read, knowledge, line_at, numbers, returns_read, said_at}
 use Rattle.pam_facts.specs.known.Knowledge.{told_at, told_knowledge, unless}
 use Rattle.pam_facts.specs.known.inner.Sets.{Lets}
 use Rattle.pam_facts.specs.known.Tables.{TablesText}
@@ -26,7 +26,8 @@ use Rattle.pam_facts.proofs.KnownProofs.ReaderSteps.{no_lines}
 module _ (kind : Kind) (login : LoginText) (tables : TablesText) (items : Items) where
   -- the codes, if the groups and the lines of the returns file are these
   abbrev pub codes_with : List Group → List ReturnLine → ℕ → List ℕ
-  codes_with groups lines number = codes_by (told_at kind login tables groups items number) (line_at lines items number)
+  codes_with groups lines number =
+      codes_by (told_at kind login tables groups items number) (line_at lines items number) (said_at kind tables.facts items number)
 
   abbrev after_returns : List Group → Result (List ReturnLine) KnownError → Result (ℕ → List ℕ) KnownError
   after_returns groups returns = returns >>= λ lines. Ok (codes_with groups lines)
@@ -90,10 +91,11 @@ module _ (kind : Kind) (login : LoginText) (tables : TablesText) (items : Items)
 
       pub known_from_tables : (known : Known) → tables.returns ≡ None →
           ((number : ℕ) → 1 ≤ number → number ≤ module_count items →
-          Lets (codes_by (told_at kind login tables groups items number) None) (set_for known number)) →
+          Lets (codes_by (told_at kind login tables groups items number) None (said_at kind tables.facts items number)) (set_for known number)) →
           Knows (module_count items) (Ok known) (told_knowledge kind login tables items)
       known_from_tables known given sets = known_with [] known (ap returns_read given) (λ number first last.
-          subst (λ (line : Option (List ℕ)). Lets (codes_by (told_at kind login tables groups items number) line) (set_for known number))
+          subst (λ (line : Option (List ℕ)).
+          Lets (codes_by (told_at kind login tables groups items number) line (said_at kind tables.facts items number)) (set_for known number))
           (sym (no_lines items number)) (sets number first last))
 
 -- the codes of modules that may not be there

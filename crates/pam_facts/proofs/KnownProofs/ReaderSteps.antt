@@ -15,7 +15,8 @@ use Rattle.pam_tables.specs.times.Times.{answer_of}
 use Rattle.pam_tables.specs.declared.times.table.TimeAnswer.{TimeAnswer}
 use Rattle.pam_tables.specs.declared.times.table.TimeAnswer.TheVariants as times
 use Rattle.pam_facts.specs.known.Answers.{access_code, access_read, access_told, name_of_path, result_map, table_answer, time_code, time_read, time_told}
-use Rattle.pam_facts.specs.known.Knowledge.{codes_by, line_at, told_at}
+use Rattle.pam_facts.specs.known.Knowledge.{line_at, told_at}
+use Rattle.pam_facts.specs.known.inner.Sets.{Adds}
 use Rattle.pam_facts.specs.known.Tables.{TablesText, TimedText}
 
 pub reader_is : (named keyed any : Bool) → named ≡ true → keyed ≡ any → not keyed ≡ (named && not any)
@@ -36,10 +37,10 @@ unfolding time_read
 time_is_given kind tables m table e = given_of _ tables.time table e
 
 -- a line changes nothing if a table tells the code
-pub told_alone : (told : Option (Result ℕ KnownError)) (line : Option (List ℕ)) → is_some told ≡ true → codes_by told line ≡ codes_by told None
-told_alone None line e = absurd (cc)
-told_alone (Some (Ok code)) line e = refl
-told_alone (Some (Err fault)) line e = refl
+pub told_alone : (told : Option (Result ℕ KnownError)) (line : Option (List ℕ)) → is_some told ≡ true → Adds None told line
+told_alone None line e said = absurd (cc)
+told_alone (Some (Ok code)) line e said = refl
+told_alone (Some (Err fault)) line e said = refl
 
 pub untold : (told : Option (Result ℕ KnownError)) → is_some told ≡ false → told ≡ None
 untold None e = refl

@@ -78,22 +78,18 @@ lets_all code h = sym (ap (is_in code) (nothing_set [] all_codes refl refl) ∙ 
 
 -- ---- the sets of a module
 
-lets_same : (told other : Option (Result ℕ KnownError)) (set new : List ℕ) → told ≡ other → set ≡ new → Lets (codes_by other None) new →
-    Lets (codes_by told None) set
-lets_same told other set new is same h =
-    subst (λ (t : Option (Result ℕ KnownError)). Lets (codes_by t None) set) (sym is)
-    (subst (λ (x : List ℕ). Lets (codes_by other None) x) (sym same) h)
+-- `said` is what facts say of the module
+module _ (told : Option (Result ℕ KnownError)) (said set : List ℕ) where
+  pub told_set : (code : ℕ) → code < 31 → told ≡ Some (Ok code) → set ≡ code ∷ [] → Lets (codes_by told None said) set
+  told_set code small is same =
+      subst (λ (t : Option (Result ℕ KnownError)). Lets (codes_by t None said) set) (sym is)
+      (subst (Lets (code ∷ [])) (sym same) (lets_one code small))
 
-pub told_set : (told : Option (Result ℕ KnownError)) (code : ℕ) (set : List ℕ) → code < 31 → told ≡ Some (Ok code) → set ≡ code ∷ [] →
-    Lets (codes_by told None) set
-told_set told code set small is same = lets_same told (Some (Ok code)) set (code ∷ []) is same (lets_one code small)
+  pub untold_set : told ≡ None → Lets said set → Lets (codes_by told None said) set
+  untold_set is h = subst (λ (t : Option (Result ℕ KnownError)). Lets (codes_by t None said) set) (sym is) h
 
-pub untold_set : (told : Option (Result ℕ KnownError)) (set : List ℕ) → told ≡ None → set ≡ [] → Lets (codes_by told None) set
-untold_set told set is same = lets_same told None set [] is same lets_all
+  pub line_kept : (line : Option (List ℕ)) → Adds None told line → Lets (codes_by told None said) set → Lets (codes_by told line said) set
+  line_kept line adds h = subst (λ (codes : List ℕ). Lets codes set) (sym (adds said)) h
 
-pub line_kept : (told : Option (Result ℕ KnownError)) (line : Option (List ℕ)) (set : List ℕ) → codes_by told line ≡ codes_by told None →
-    Lets (codes_by told None) set → Lets (codes_by told line) set
-line_kept told line set e h = subst (λ (codes : List ℕ). Lets codes set) (sym e) h
-
-pub line_put : (told : Option (Result ℕ KnownError)) (line : Option (List ℕ)) (set : List ℕ) → Adds (Some set) told line → Lets (codes_by told line) set
-line_put told line set adds = subst (λ (codes : List ℕ). Lets codes set) (sym adds.0) (lets_codes set adds.1 adds.2)
+  pub line_put : (line : Option (List ℕ)) → Adds (Some set) told line → Lets (codes_by told line said) set
+  line_put line adds = subst (λ (codes : List ℕ). Lets codes set) (sym (adds.0 said)) (lets_codes set adds.1 adds.2)

@@ -8,11 +8,13 @@ use Rattle.std.proofs.lemmas.Bool.{cond_both, or_left}
 use Rattle.std.proofs.lemmas.List.Elements.{All-cons, All-filter, All-head, All-nil}
 use Rattle.pam_codes.specs.Code.{all_codes, module_unknown}
 use Rattle.pam_codes.specs.Set.{codes_where, is_in}
-use Rattle.pam_codes.proofs.CodeSets.{all_codes-within}
+use Rattle.pam_codes.proofs.CodeSets.{all_codes-within, set-within}
 use Rattle.pam_conf.specs.Stack.{Items, ModuleText, module_at}
 use Rattle.pam_conf.specs.declared.rule.Kind.{Kind}
 use Rattle.pam_facts.specs.Answers.{is_there}
 use Rattle.pam_facts.specs.Missing.{if_missing, missing_at, where_there}
+use Rattle.pam_facts.specs.Rows.{Row}
+use Rattle.pam_facts.specs.declared.answers.Checks.TheVariants.{MaySucceed}
 use Rattle.pam_tables.specs.Error.{onto_lines, read_lines}
 use Rattle.pam_tables.specs.Groups.{Group}
 use Rattle.pam_tables.specs.Lines.{fault_of_bytes, lines_from}
@@ -24,10 +26,12 @@ use Rattle.pam_tables.specs.declared.error.TableFault.{TableFault}
 use Rattle.pam_tables.specs.declared.error.TableFault.TheVariants.{BadCode, BadModule}
 use Rattle.pam_tables.proofs.ReturnSteps.{no_code}
 use Rattle.pam_facts.specs.known.Answers.{name_of_path, read_as}
-use Rattle.pam_facts.specs.known.Knowledge.{◌>>=◌, codes_by, first_fault, groups_read, knowledge, line_at, numbers, returns_read, told_at, told_knowledge, unless}
+use Rattle.pam_facts.specs.known.Knowledge.{◌>>=◌, codes_by, first_fault, groups_read, knowledge, line_at, numbers, returns_read}
+use Rattle.pam_facts.specs.known.Knowledge.{said_at, told_at, told_knowledge, unless}
 use Rattle.pam_facts.specs.known.Laws.{AreSomeCodes, KnowledgeIsLawful, KnownCodesAreSome}
 use Rattle.pam_facts.specs.known.Tables.{TablesText}
 use Rattle.pam_facts.specs.declared.known.error.KnownError.{KnownError}
+use Rattle.pam_facts.proofs.AnswerSteps.{at_some}
 use Rattle.pam_facts.proofs.KnownProofs.KnowledgeSteps.{codes_with}
 use Rattle.pam_facts.proofs.KnownProofs.ReaderSteps.{code_small_at}
 
@@ -144,12 +148,17 @@ any_some : AreSomeCodes all_codes
 unfolding all_codes
 any_some = ((λ none. absurd (cc)), all_codes-within)
 
-by_some : (told : Option (Result ℕ KnownError)) (line : Option (List ℕ)) → ((code : ℕ) → told ≡ Some (Ok code) → IsCode code) → IfSome line AreSomeCodes →
-    AreSomeCodes (codes_by told line)
-by_some (Some (Ok code)) line small some = ((λ none. absurd (cc)), All-cons IsCode code [] (small code refl) (All-nil IsCode))
-by_some (Some (Err fault)) line small some = any_some
-by_some None (Some set) small some = some
-by_some None None small some = any_some
+said_some : (kind : Kind) (facts : Option (List Row)) (items : Items) (number : ℕ) → AreSomeCodes (said_at kind facts items number)
+unfolding said_at
+said_some kind None items number = any_some
+said_some kind (Some rows) items number = let is = at_some MaySucceed kind rows None items number in (is.some, set-within _ is.order)
+
+by_some : (told : Option (Result ℕ KnownError)) (line : Option (List ℕ)) (said : List ℕ) → ((code : ℕ) → told ≡ Some (Ok code) → IsCode code) →
+    IfSome line AreSomeCodes → AreSomeCodes said → AreSomeCodes (codes_by told line said)
+by_some (Some (Ok code)) line said small some left = ((λ none. absurd (cc)), All-cons IsCode code [] (small code refl) (All-nil IsCode))
+by_some (Some (Err fault)) line said small some left = any_some
+by_some None (Some set) said small some left = some
+by_some None None said small some left = left
 
 -- ---- all that is known
 
@@ -160,8 +169,8 @@ module _ (kind : Kind) (login : LoginText) (tables : TablesText) (items : Items)
   lines_some groups (Ok lines) some e number =
       let same : codes_with kind login tables items groups lines ≡ allowed = cc in
       subst (λ (known : ℕ → List ℕ). AreSomeCodes (known number)) same
-      (by_some (told_at kind login tables groups items number) (line_at lines items number) (code_small_at kind login tables groups items number)
-      (line_at-some lines items number (some lines refl)))
+      (by_some (told_at kind login tables groups items number) (line_at lines items number) (said_at kind tables.facts items number)
+      (code_small_at kind login tables groups items number) (line_at-some lines items number (some lines refl)) (said_some kind tables.facts items number))
 
   unless_none : (fault : Option KnownError) (told : Result (ℕ → List ℕ) KnownError) → unless fault told ≡ Ok allowed → told ≡ Ok allowed
   unless_none None told e = e

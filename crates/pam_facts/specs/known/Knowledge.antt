@@ -1,4 +1,4 @@
--- The codes that modules may return, from tables and a returns file: pam.conf(5), pam_access(8), pam_time(8).
+-- The codes that modules may return, from tables, a returns file and facts: pam.conf(5), pam_access(8), pam_time(8).
 use Rattle.std.specs.Prelude.{◌≡◌, ℕ, ◌<◌, ◌≤◌, Bool, false, is_some, if◌then◌else◌, List, [], ◌∷◌, Option, Some, None, Result, Ok, Err}
 use Rattle.std.specs.List.{list_any, range_with_len}
 use Rattle.std.specs.Option.{option_and_then, option_map_or, option_or}
@@ -6,7 +6,9 @@ use Rattle.pam_codes.specs.Code.{all_codes}
 use Rattle.pam_codes.specs.Set.{is_in}
 use Rattle.pam_conf.specs.Stack.{Items, module_at, module_count}
 use Rattle.pam_conf.specs.declared.rule.Kind.{Kind}
+use Rattle.pam_facts.specs.Answers.{free_answers}
 use Rattle.pam_facts.specs.Missing.{where_there}
+use Rattle.pam_facts.specs.Rows.{Row}
 use Rattle.pam_paths.specs.Known.{may_answer}
 use Rattle.pam_paths.specs.Listing.{Allowance}
 use Rattle.pam_paths.specs.declared.knowledge.Known.{Known}
@@ -60,12 +62,16 @@ returns_read (Some bytes) = read_as ReturnsTable (returns_of bytes)
 
 -- ---- the codes of each module
 
--- the code that a table tells, else the codes of a line, else all codes. A fault tells no code; see `knowledge`
-abbrev pub codes_by : Option (Result ℕ KnownError) → Option (List ℕ) → List ℕ
-codes_by (Some (Ok code)) line = code ∷ []
-codes_by (Some (Err e)) line = all_codes
-codes_by None (Some codes) = codes
-codes_by None None = all_codes
+-- what facts say that a module can answer in this kind, by its number; all codes if they are not asked
+unfoldable pub said_at : Kind → Option (List Row) → Items → ℕ → List ℕ
+said_at kind facts items number = option_map_or (λ rows. free_answers kind rows None items number) facts all_codes
+
+-- the code that a table tells, else the codes of a line, else what the facts say. A fault tells no code; see `knowledge`
+abbrev pub codes_by : Option (Result ℕ KnownError) → Option (List ℕ) → List ℕ → List ℕ
+codes_by (Some (Ok code)) line said = code ∷ []
+codes_by (Some (Err e)) line said = all_codes
+codes_by None (Some codes) said = codes
+codes_by None None said = said
 
 -- the knowledge that allows each module these codes, by its number
 abbrev pub allows_codes : (ℕ → List ℕ) → Allowance
@@ -80,15 +86,17 @@ abbrev pub unless : {B : Type 0} → Option KnownError → Result B KnownError �
 unless None told = told
 unless (Some e) told = Err e
 
--- the codes that each module may return if all modules are there, from the tables and a returns file
+-- the codes that each module may return if all modules are there, from the tables, a returns file and facts
 unfoldable pub told_knowledge : Kind → LoginText → TablesText → Items → Result (ℕ → List ℕ) KnownError
 told_knowledge kind login tables items =
     groups_read tables items
     >>= λ groups. unless (first_fault (told_at kind login tables groups items) (numbers items)) (returns_read tables.returns
-    >>= λ lines. Ok (λ number. codes_by (told_at kind login tables groups items number) (line_at lines items number)))
+    >>= λ lines.
+    Ok (λ number.
+    codes_by (told_at kind login tables groups items number) (line_at lines items number) (said_at kind tables.facts items number)))
 
 -- THE KNOWLEDGE of a stack for a login: the codes that each module may return, by its number. One that is not there returns
--- module_unknown alone, whatever a table or the returns file says of it. The first fault is that of the groups, then those of the
+-- module_unknown alone, whatever a table, the returns file or facts say of it. The first fault is that of the groups, then those of the
 -- tables, in the order of the modules, then that of the returns file
 unfoldable pub knowledge : Kind → LoginText → TablesText → Items → Result (ℕ → List ℕ) KnownError
 knowledge kind login tables items = told_knowledge kind login tables items >>= λ codes. Ok (where_there tables.there items codes)

@@ -1,7 +1,8 @@
--- What tells the codes of modules: access.conf(5), time.conf(5), group(5), and which modules are there.
+-- What tells the codes of modules: access.conf(5), time.conf(5), group(5), which modules are there, and what is known of them.
 use Rattle.std.specs.Prelude.{ℕ, List, Option}
 use Rattle.std.specs.Option.{option_map}
 use Rattle.jiff.specs.Types.{DateTime}
+use Rattle.pam_facts.specs.Rows.{Row}
 use Rattle.pam_facts.specs.declared.known.tables.Tables.{Tables}
 use Rattle.pam_facts.specs.declared.known.tables.TimedTable.{TimedTable}
 
@@ -10,13 +11,14 @@ pub record TimedText : Type 0 where
   pub bytes : List ℕ
   pub moment : DateTime
 
--- the files that are given, and the paths at which a module is there, if that is known
+-- the files that are given, the paths at which a module is there, if that is known, and the facts, if they are asked
 pub record TablesText : Type 0 where
   pub there : Option (List (List ℕ))
   pub groups : Option (List ℕ)
   pub access : Option (List ℕ)
   pub time : Option TimedText
   pub returns : Option (List ℕ)
+  pub facts : Option (List Row)
 
 abbrev pub timed_view : TimedTable → TimedText
 timed_view t = record { bytes = t.bytes.now; moment = t.moment }
@@ -28,4 +30,5 @@ tables_view t = record {
   access = option_map (λ b. b.now) t.access;
   time = option_map timed_view t.time;
   returns = option_map (λ b. b.now) t.returns;
+  facts = option_map (λ f. f.now) t.facts;
 }

@@ -9,7 +9,7 @@ ghost use Rattle.pam_facts.specs.known.inner.Answers.{TellsError};
 ghost use Rattle.pam_facts.specs.known.Knowledge.{Knows, groups_read, knowledge, line_at, numbers, reads_access, told_knowledge};
 ghost use Rattle.pam_facts.specs.known.Reads.{IsOfRead, tables_read};
 ghost use Rattle.pam_facts.specs.known.inner.Sets.{module_reads, number_reads, of_groups, of_module, some_read};
-ghost use Rattle.pam_facts.specs.known.inner.Sets.{Adds, IsKept, TellsAll, TellsIfAny, IsAccessCode, IsLineSet, IsTableSet, told_of, told_of_number};
+ghost use Rattle.pam_facts.specs.known.inner.Sets.{Adds, IsKept, TellsAll, TellsIfAny, IsAccessCode, IsLineSet, IsSaidSet, IsTableSet, said_of, told_of, told_of_number};
 ghost use Rattle.pam_facts.specs.known.Tables.{tables_view, timed_view};
 ghost use Rattle.pam_paths.specs.Known.{set_for};
 ghost use Rattle.pam_tables.specs.Login.{login_view};
@@ -201,12 +201,23 @@ impl Lookup<'_, '_, '_> {
         }
     }
 
-    /// Returns the codes of all modules that read a table.
+    /// Returns what the facts leave of the codes of all modules.
+    fn said_answers(&self, stack: &Stack) -> Known
+        ensures { (m : ℕ) → 1 ≤ m → m ≤ module_count stack.now → IsSaidSet (said_of self.now stack.now) m (set_for result m) }
+    {
+        match self.tables.facts {
+            // A module that is not there gets its code in the end, whatever else is known of it.
+            Some(facts) => facts.answers(stack, self.kind, None),
+            None => Known::new(),
+        }
+    }
+
+    /// Returns the codes of all modules: those of tables for the modules that read one, and for the others what the facts leave.
     fn table_answers(&self, alloc: Global, stack: &Stack) -> Result<Known, KnownError>
-        ensures told { TellsAll (module_count stack.now) (told_of_number self.now stack.now) (numbers stack.now) result }
+        ensures told { TellsAll (module_count stack.now) (told_of_number self.now stack.now) (said_of self.now stack.now) (numbers stack.now) result }
         ensures read { IfErr result (IsOfRead (some_read self.now stack.now)) }
     {
-        let mut known = Known::new();
+        let mut known = self.said_answers(stack);
         let mut kept = Kept {
             by_time: None,
             by_options: Vec::new(alloc),
@@ -253,9 +264,10 @@ impl Lookup<'_, '_, '_> {
 
     /// Adds the codes of a returns file, for the modules that read no table.
     fn add_returns(&self, stack: &Stack, returns: &ReturnTable<'_>, known: &mut Known)
-        requires { (m : ℕ) → 1 ≤ m → m ≤ module_count stack.now → IsTableSet (told_of_number self.now stack.now) m (set_for known.old m) }
+        requires { (m : ℕ) → 1 ≤ m → m ≤ module_count stack.now
+            → IsTableSet (told_of_number self.now stack.now) (said_of self.now stack.now) m (set_for known.old m) }
         ensures { (m : ℕ) → 1 ≤ m → m ≤ module_count stack.now
-            → IsLineSet (told_of_number self.now stack.now) (line_at returns.now stack.now) m (set_for known.new m) }
+            → IsLineSet (told_of_number self.now stack.now) (line_at returns.now stack.now) (said_of self.now stack.now) m (set_for known.new m) }
     {
         for index in 0..stack.modules() {
             if let Some(codes) = self.codes_at(stack, index + 1, returns) {
@@ -270,8 +282,9 @@ impl Lookup<'_, '_, '_> {
 /// A module `pam_access.so` returns what the access table says, read with the module's own arguments, unless one of
 /// them begins with `accessfile=`. A module `pam_time.so` returns what the time table says, for `account` only, unless
 /// an argument begins with `conffile=`. Granted is `success`, denied is `perm_denied`. Every other module may return
-/// the codes of its line in the returns file, or any code if it has no line. A module that is not there returns
-/// `module_unknown` alone, whatever a table or the returns file says of it.
+/// the codes of its line in the returns file. If it has no line, it may return the codes that the facts say for this kind,
+/// or any code if no facts are given. A module that is not there returns `module_unknown` alone, whatever a table, the
+/// returns file or the facts say of it.
 ///
 /// Returns the first fault: of the group file, which is read only if a module reads the access table; then of the
 /// table that a module reads, in the order of the modules; then of the returns file. A failed allocation is `Memory`

@@ -1,7 +1,8 @@
-//! The files that a login is looked up in.
+//! The files that a login is looked up in, and what is known besides.
 
+use crate::facts::Facts;
 use jiff::civil::DateTime;
-use pam_text::Texts;
+use pam_conf::NameList;
 
 /// A time table, as in time.conf(5), and the moment of the login.
 #[derive(Clone, Copy)]
@@ -10,11 +11,11 @@ pub struct TimedTable<'a> {
     pub moment: DateTime,
 }
 
-/// What gives the codes of modules: the contents of files, and which modules are there. What is `None` gives nothing.
+/// What gives the codes of modules: the contents of files, which modules are there, and facts. What is `None` gives nothing.
 #[derive(Clone, Copy)]
 pub struct Tables<'a> {
     /// The paths at which a module is there, as rules write them.
-    pub there: Option<&'a Texts>,
+    pub there: Option<&'a NameList>,
     /// The group file that the access table refers to, as in group(5).
     pub groups: Option<&'a [u8]>,
     /// The access table, as in access.conf(5).
@@ -22,4 +23,6 @@ pub struct Tables<'a> {
     pub time: Option<TimedTable<'a>>,
     /// A returns file: the codes that modules may return, by module name.
     pub returns: Option<&'a [u8]>,
+    /// What is known of the modules of which neither a table nor the returns file tells.
+    pub facts: Option<&'a Facts<'a>>,
 }

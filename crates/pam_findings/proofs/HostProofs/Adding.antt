@@ -83,14 +83,15 @@ walk-to faults file line (problems.NoModule is_dashed) h = absurd h
 walk-to faults file line problems.NoOther h = absurd h
 walk-to faults file line problems.UnreachableName h = absurd h
 walk-to faults file line (problems.TooLarge service kind) h = absurd h
-walk-to faults file line (problems.OtherAnswers service kind) h = absurd h
+walk-to faults file line (problems.OtherAnswers service kind has_no_rule lets_nobody_in) h = absurd h
 walk-to faults file line problems.LeftOver h = absurd h
 walk-to faults file line problems.JumpIntoInclude h = absurd h
 walk-to faults file line problems.NoFunction h = absurd h
-walk-to faults file line problems.CallerIsRoot h = absurd h
+walk-to faults file line (problems.CallerIsRoot is_daemon) h = absurd h
 walk-to faults file line problems.EmptySeparator h = absurd h
 walk-to faults file line problems.UnknownModule h = absurd h
 walk-to faults file line problems.SuccessNeverCounts h = absurd h
+walk-to faults file line (problems.NotCounted counts) h = absurd h
 walk-to faults file line (problems.Argument argument wrong) h = absurd h
 walk-to faults file line (problems.BadArguments lack) h = absurd h
 

@@ -140,14 +140,15 @@ module _ (folder : Folder) where
   from-folder file line problems.NeverAsked first h = absurd (false≢true h)
   from-folder file line (problems.NoModule is_dashed) first h = absurd (false≢true h)
   from-folder file line (problems.TooLarge service kind) first h = absurd (false≢true h)
-  from-folder file line (problems.OtherAnswers service kind) first h = absurd (false≢true h)
+  from-folder file line (problems.OtherAnswers service kind has_no_rule lets_nobody_in) first h = absurd (false≢true h)
   from-folder file line problems.JumpIntoInclude first h = absurd (false≢true h)
   from-folder file line problems.NoFunction first h = absurd (false≢true h)
-  from-folder file line problems.CallerIsRoot first h = absurd (false≢true h)
+  from-folder file line (problems.CallerIsRoot is_daemon) first h = absurd (false≢true h)
   from-folder file line (problems.Argument argument wrong) first h = absurd (false≢true h)
   from-folder file line (problems.BadArguments lack) first h = absurd (false≢true h)
   from-folder file line problems.EmptySeparator first h = absurd (false≢true h)
   from-folder file line problems.UnknownModule first h = absurd (false≢true h)
+  from-folder file line (problems.NotCounted counts) first h = absurd (false≢true h)
   from-folder file line problems.SuccessNeverCounts first h = absurd (false≢true h)
 
 -- with no names, the problems of a folder are these

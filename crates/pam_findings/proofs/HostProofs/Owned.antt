@@ -109,16 +109,17 @@ module _ (folder : Folder) (start file : ℕ) (bytes : List ℕ) where
   to_spot line problems.NoOther h = absurd h
   to_spot line problems.UnreachableName h = absurd h
   to_spot line (problems.TooLarge service kind) h = absurd h
-  to_spot line (problems.OtherAnswers service kind) h = absurd h
+  to_spot line (problems.OtherAnswers service kind has_no_rule lets_nobody_in) h = absurd h
   to_spot line problems.LeftOver h = absurd h
   to_spot line problems.JumpIntoInclude h = absurd h
   to_spot line problems.NoFunction h = absurd h
-  to_spot line problems.CallerIsRoot h = absurd h
+  to_spot line (problems.CallerIsRoot is_daemon) h = absurd h
   to_spot line (problems.Argument argument wrong) h = absurd h
   to_spot line (problems.BadArguments lack) h = absurd h
   to_spot line problems.EmptySeparator h = absurd h
   to_spot line problems.UnknownModule h = absurd h
   to_spot line problems.SuccessNeverCounts h = absurd h
+  to_spot line (problems.NotCounted counts) h = absurd h
 
   abbrev Has : Spot → Type 0
   Has s = (s.file ≡ Some file) × BytesHave folder start bytes s.line s.problem

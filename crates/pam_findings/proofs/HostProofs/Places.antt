@@ -1,6 +1,6 @@
 -- The places of problems: their order, and that two problems have two places.
-use Rattle.std.proofs.Common.{◌≡◌, ℕ, ◌+◌, ◌-◌, ◌≤◌, arith, cond, nat_lt, if◌then◌else◌, Bool, true, false, [], ◌∷◌, refl, sym, ◌∙◌, ap, subst, inl, inr}
-use Rattle.std.proofs.Common.{Option, Some, None, slice_index_or, IfSome, nat_cmp}
+use Rattle.std.proofs.Common.{◌≡◌, ℕ, ◌+◌, ◌-◌, ◌/◌, ◌%◌, ◌≤◌, arith, cond, nat_lt, if◌then◌else◌, Bool, true, false, [], ◌∷◌, refl, sym, ◌∙◌, ap}
+use Rattle.std.proofs.Common.{subst, inl, inr, Option, Some, None, slice_index_or, IfSome, nat_cmp}
 use Rattle.std.specs.BTreeMap.{Updates, get, is_at}
 use Rattle.std.specs.Cmp.{IsTotalOrder}
 use Rattle.std.specs.Cmp.Lexicographic.{options_total}
@@ -23,8 +23,8 @@ use Rattle.pam_released.specs.declared.difference.Difference.{Difference}
 use Rattle.pam_released.specs.declared.difference.Difference.TheVariants.{CarriageReturn, ContinuedOverBlank, BackslashBlank, BackslashComment}
 use Rattle.pam_released.specs.declared.difference.Difference.TheVariants.{EndsInContinuation, CapitalInBrackets, LongLine, EmptyModuleName, DroppedBlank}
 use Rattle.pam_released.specs.Findings.{number_of}
-use Rattle.pam_findings.specs.host.Problems.{compare_places, kind_of, number_of_kind, number_of_lack, place_of, rank_of, rank_of_argument, rank_of_fault}
-use Rattle.pam_findings.specs.host.Problems.{reaction_of, service_of}
+use Rattle.pam_findings.specs.host.Problems.{compare_places, kind_of, number_of_answer, number_of_kind, number_of_lack, place_of, rank_of}
+use Rattle.pam_findings.specs.host.Problems.{rank_of_argument, rank_of_fault, reaction_of, service_of}
 use Rattle.pam_findings.specs.host.inner.Table.{Puts, Removes, Table, finding_at}
 use Rattle.pam_findings.specs.declared.host.problem.ArgumentProblem.{ArgumentProblem}
 use Rattle.pam_findings.specs.declared.host.problem.ArgumentProblem.TheVariants as arguments
@@ -71,6 +71,9 @@ wrong_numbered n reaction =
 abbrev lack_numbered : ℕ → Lack
 lack_numbered n = slice_index_or (lacks.Program ∷ lacks.List ∷ lacks.Database ∷ lacks.UserType ∷ []) n lacks.Condition
 
+abbrev answer_numbered : ℕ → ℕ → Problem
+answer_numbered service n = problems.OtherAnswers service (kind_numbered (n / 4)) (nat_lt 1 (n % 4)) (nat_lt 0 (n % 2))
+
 abbrev other_numbered : ℕ → ℕ → ℕ → Problem
 other_numbered n service kind =
     if nat_lt n 1 then problems.IncludedFromVendor (nat_lt 0 kind)
@@ -83,13 +86,14 @@ other_numbered n service kind =
     else if nat_lt n 17 then problems.NoOther
     else if nat_lt n 18 then problems.UnreachableName
     else if nat_lt n 20 then problems.TooLarge service (kind_numbered kind)
-    else if nat_lt n 21 then problems.OtherAnswers service (kind_numbered kind)
+    else if nat_lt n 21 then answer_numbered service kind
     else if nat_lt n 22 then problems.LeftOver
     else if nat_lt n 23 then problems.JumpIntoInclude
     else if nat_lt n 24 then problems.NoFunction
-    else if nat_lt n 25 then problems.CallerIsRoot
+    else if nat_lt n 25 then problems.CallerIsRoot (nat_lt 0 kind)
     else if nat_lt n 29 then problems.Argument service (wrong_numbered (n - 25) kind)
     else if nat_lt n 30 then problems.BadArguments (lack_numbered kind)
+    else if nat_lt n 33 then problems.NotCounted (nat_lt 0 kind)
     else if nat_lt n 34 then problems.Argument service arguments.Weak
     else if nat_lt n 36 then problems.UnknownModule
     else problems.SuccessNeverCounts
@@ -170,12 +174,25 @@ of_large service Account = refl
 of_large service Password = refl
 of_large service Session = refl
 
-of_other : (service : ℕ) (kind : Kind) → problem_of 70 service (number_of_kind kind) ≡ problems.OtherAnswers service kind
+of_answer : (service : ℕ) (kind : Kind) (has_no_rule lets_nobody_in : Bool) →
+    problem_of 70 service (number_of_answer kind has_no_rule lets_nobody_in) ≡ problems.OtherAnswers service kind has_no_rule lets_nobody_in
 unfolding problem_of
-of_other service Auth = refl
-of_other service Account = refl
-of_other service Password = refl
-of_other service Session = refl
+of_answer service Auth false false = refl
+of_answer service Auth false true = refl
+of_answer service Auth true false = refl
+of_answer service Auth true true = refl
+of_answer service Account false false = refl
+of_answer service Account false true = refl
+of_answer service Account true false = refl
+of_answer service Account true true = refl
+of_answer service Password false false = refl
+of_answer service Password false true = refl
+of_answer service Password true false = refl
+of_answer service Password true true = refl
+of_answer service Session false false = refl
+of_answer service Session false true = refl
+of_answer service Session true false = refl
+of_answer service Session true true = refl
 
 of_included : (is_at_include : Bool) → problem_of 50 0 (if is_at_include then 1 else 0) ≡ problems.IncludedFromVendor is_at_include
 unfolding problem_of
@@ -186,6 +203,16 @@ of_missing : (is_dashed : Bool) → problem_of 65 0 (if is_dashed then 1 else 0)
 unfolding problem_of
 of_missing true = refl
 of_missing false = refl
+
+of_caller : (is_daemon : Bool) → problem_of 74 0 (if is_daemon then 1 else 0) ≡ problems.CallerIsRoot is_daemon
+unfolding problem_of
+of_caller true = refl
+of_caller false = refl
+
+of_half : (counts : Bool) → problem_of 82 0 (if counts then 1 else 0) ≡ problems.NotCounted counts
+unfolding problem_of
+of_half true = refl
+of_half false = refl
 
 of_argument : (argument : ℕ) (wrong : ArgumentProblem) →
     problem_of (rank_of_argument wrong) argument (reaction_of wrong) ≡ problems.Argument argument wrong
@@ -220,14 +247,15 @@ of_problem (problems.NoModule is_dashed) = of_missing is_dashed
 of_problem problems.NoOther = refl
 of_problem problems.UnreachableName = refl
 of_problem (problems.TooLarge service kind) = of_large service kind
-of_problem (problems.OtherAnswers service kind) = of_other service kind
+of_problem (problems.OtherAnswers service kind has_no_rule lets_nobody_in) = of_answer service kind has_no_rule lets_nobody_in
 of_problem problems.LeftOver = refl
 of_problem problems.JumpIntoInclude = refl
 of_problem problems.NoFunction = refl
-of_problem problems.CallerIsRoot = refl
+of_problem (problems.CallerIsRoot is_daemon) = of_caller is_daemon
 of_problem problems.EmptySeparator = refl
 of_problem problems.UnknownModule = refl
 of_problem problems.SuccessNeverCounts = refl
+of_problem (problems.NotCounted counts) = of_half counts
 of_problem (problems.Argument argument wrong) = of_argument argument wrong
 of_problem (problems.BadArguments lack) = of_lack lack
 

@@ -67,14 +67,15 @@ not-in-stack modules service name kind faults items home verdict spot folder sta
 not-in-stack modules service name kind faults items home verdict spot folder start bytes problems.NoOther h k = h
 not-in-stack modules service name kind faults items home verdict spot folder start bytes problems.UnreachableName h k = h
 not-in-stack modules service name kind faults items home verdict spot folder start bytes (problems.TooLarge of_service of_kind) h k = h
-not-in-stack modules service name kind faults items home verdict spot folder start bytes (problems.OtherAnswers of_service of_kind) h k = h
+not-in-stack modules service name kind faults items home verdict spot folder start bytes (problems.OtherAnswers of_service of_kind none nobody) h k = h
 not-in-stack modules service name kind faults items home verdict spot folder start bytes problems.LeftOver h k = h
 not-in-stack modules service name kind faults items home verdict spot folder start bytes problems.JumpIntoInclude h k = h
 not-in-stack modules service name kind faults items home verdict spot folder start bytes problems.NoFunction h k = h
-not-in-stack modules service name kind faults items home verdict spot folder start bytes problems.CallerIsRoot h k = h
+not-in-stack modules service name kind faults items home verdict spot folder start bytes (problems.CallerIsRoot is_daemon) h k = h
 not-in-stack modules service name kind faults items home verdict spot folder start bytes problems.EmptySeparator h k = h
 not-in-stack modules service name kind faults items home verdict spot folder start bytes problems.UnknownModule h k = h
 not-in-stack modules service name kind faults items home verdict spot folder start bytes problems.SuccessNeverCounts h k = h
+not-in-stack modules service name kind faults items home verdict spot folder start bytes (problems.NotCounted counts) h k = h
 not-in-stack modules service name kind faults items home verdict spot folder start bytes (problems.Argument argument wrong) h k = h
 not-in-stack modules service name kind faults items home verdict spot folder start bytes (problems.BadArguments lack) h k = h
 

@@ -1,5 +1,5 @@
 -- What is seen of a stack.
-use Rattle.std.proofs.Common.{◌≡◌, ◌⊎◌, ◌↔◌, ℕ, ◌++◌, List, [], length, refl, sym, ◌∙◌, ap, subst, inl, inr}
+use Rattle.std.proofs.Common.{◌≡◌, ◌⊎◌, ◌↔◌, ℕ, ◌++◌, false, List, [], length, refl, sym, ◌∙◌, ap, subst, inl, inr}
 use Rattle.std.proofs.Common.{Option, Some, None, Ok, slice_get}
 use Rattle.std.proofs.lemmas.Bool.{false≢true}
 use Rattle.pam_conf.specs.Files.{Folder}
@@ -22,11 +22,11 @@ use Rattle.pam_findings.specs.host.StackProblems.{ByVerdict, InItems, InStack, I
 use Rattle.pam_findings.specs.host.inner.Table.{Adds, Notes, Puts, Table, with_stack}
 use Rattle.pam_findings.specs.host.Verdicts.{IsVerdict, Refused, Verdict, never_asked_in}
 use Rattle.pam_findings.specs.declared.host.judging.Stacked.{Stacked}
+use Rattle.pam_findings.specs.declared.host.judging.Told.{Told}
 use Rattle.pam_findings.specs.declared.host.problem.Problem.{Problem}
 use Rattle.pam_findings.specs.declared.host.problem.Problem.TheVariants as problems
 use Rattle.pam_findings.specs.declared.host.problem.Spot.{Spot}
 use Rattle.pam_findings.specs.declared.host.stacks.Found.{Found}
-use Rattle.pam_findings.specs.declared.host.way_in.WayIn.{WayIn}
 use Rattle.pam_findings.proofs.HostProofs.Adding.{adds-both, adds-iff, adds-none}
 use Rattle.pam_findings.proofs.HostProofs.Passes.{puts-both, puts-iff, settles-stack}
 
@@ -36,7 +36,7 @@ pub none-by-refused : (service : ℕ) (kind : Kind) (home : Option ℕ) (spot : 
 none-by-refused service kind home spot (problems.LetsNobodyIn of_service of_kind) h = h.3
 none-by-refused service kind home spot (problems.LetsAnybodyIn of_service) h = false≢true h.3
 none-by-refused service kind home spot (problems.TooLarge of_service of_kind) h = absurd cc
-none-by-refused service kind home spot (problems.OtherAnswers of_service of_kind) h = h
+none-by-refused service kind home spot (problems.OtherAnswers of_service of_kind has_no_rule lets_nobody_in) h = h
 none-by-refused service kind home spot problems.JumpPastEnd h = h
 none-by-refused service kind home spot (problems.Fault fault) h = h
 none-by-refused service kind home spot (problems.Walk fault) h = h
@@ -49,12 +49,13 @@ none-by-refused service kind home spot problems.UnreachableName h = h
 none-by-refused service kind home spot problems.LeftOver h = h
 none-by-refused service kind home spot problems.JumpIntoInclude h = h
 none-by-refused service kind home spot problems.NoFunction h = h
-none-by-refused service kind home spot problems.CallerIsRoot h = h
+none-by-refused service kind home spot (problems.CallerIsRoot is_daemon) h = h
 none-by-refused service kind home spot (problems.Argument argument wrong) h = h
 none-by-refused service kind home spot (problems.BadArguments lack) h = h
 none-by-refused service kind home spot problems.EmptySeparator h = h
 none-by-refused service kind home spot problems.UnknownModule h = h
 none-by-refused service kind home spot problems.SuccessNeverCounts h = h.1
+none-by-refused service kind home spot (problems.NotCounted counts) h = h.1
 
 -- WHAT A STACK MAY ASK
 
@@ -88,7 +89,7 @@ module _ (folder : Folder) (modules : Modules) (name : List ℕ) (service : ℕ)
   By verdict spot = ByVerdict service kind (slice_get survey.reached 0) verdict spot spot.problem
 
   pub looks-none : survey.items ≡ None → (spots asked : List Spot) → Adds (λ spot. InWalk survey.faults spot spot.problem) [] spots →
-      Looks folder modules name service kind survey spots asked asked None
+      Looks folder modules name service kind survey spots asked asked (record { way_in = None; lets_nobody_in = false })
   looks-none none spots asked h = record {
     verdict = Refused;
     is_verdict = λ items stack. let k = (sound-of items stack).0 in let clash : Some items ≡ None = sym k ∙ none in absurd cc;
@@ -105,7 +106,7 @@ module _ (folder : Folder) (modules : Modules) (name : List ℕ) (service : ℕ)
         ))
         h;
     asks = subst (λ (o : Option Items). Adds (Asks o Refused) asked asked) (sym none) (adds-none (Asks None Refused) asked (λ spot a. a.may_ask));
-    way_in = λ _. refl;
+    tells = record { way_in = λ _. refl; nobody = refl };
   }
 
   -- the parts of what is wrong with a stack of these items
@@ -134,7 +135,7 @@ module _ (folder : Folder) (modules : Modules) (name : List ℕ) (service : ℕ)
       Adds (λ spot. InWalk survey.faults spot spot.problem) [] first →
       Adds (λ spot. InItems modules name kind (Some items) spot spot.problem) first spots →
       Adds (OfModules problems.NeverAsked items (λ number. Member number [] → ⊥)) asked more →
-      Looks folder modules name service kind survey spots asked more None
+      Looks folder modules name service kind survey spots asked more (record { way_in = None; lets_nobody_in = false })
   looks-unsound items there unsound first spots asked more h k l = record {
     verdict = Refused;
     is_verdict = λ others stack. unsound (sound-of others stack).1;
@@ -151,16 +152,16 @@ module _ (folder : Folder) (modules : Modules) (name : List ℕ) (service : ℕ)
         ))
         (adds-both A B [] first spots h k);
     asks = subst (λ (o : Option Items). Adds (Asks o Refused) asked more) (sym there) (asks-of items Refused asked more l);
-    way_in = λ _. refl;
+    tells = record { way_in = λ _. refl; nobody = refl };
   }
 
   pub looks-judged : (items : Items) → survey.items ≡ Some items → (first second spots asked more : List Spot) →
       Adds (λ spot. InWalk survey.faults spot spot.problem) [] first →
       Adds (λ spot. InItems modules name kind (Some items) spot spot.problem) first second →
-      (way : Option WayIn) (home : Option ℕ) → home ≡ slice_get survey.reached 0 →
-      (let at : Stacked = record { service = service; kind = kind; home = home } in Judges folder modules name at items second spots asked more way →
-      Looks folder modules name service kind survey spots asked more way)
-  looks-judged items there first second spots asked more h k way home is_home judged = record {
+      (told : Told) (home : Option ℕ) → home ≡ slice_get survey.reached 0 →
+      (let at : Stacked = record { service = service; kind = kind; home = home } in Judges folder modules name at items second spots asked more told →
+      Looks folder modules name service kind survey spots asked more told)
+  looks-judged items there first second spots asked more h k told home is_home judged = record {
     verdict = judged.verdict;
     is_verdict = judged.is_verdict;
     adds =
@@ -171,46 +172,53 @@ module _ (folder : Folder) (modules : Modules) (name : List ℕ) (service : ℕ)
         (adds-both (λ spot. A spot ⊎ B spot) C [] second spots (adds-both A B [] first second h k)
         (subst (λ (o : Option ℕ). Adds (λ spot. ByVerdict service kind o judged.verdict spot spot.problem) second spots) is_home judged.adds));
     asks = subst (λ (o : Option Items). Adds (Asks o judged.verdict) asked more) (sym there) judged.asks;
-    way_in = judged.way_in;
+    tells = judged.tells;
   }
 
 -- WHAT A STACK ADDS
 
 pub adds-stack : (files rules : Folder) (modules : Modules) (other : SurveyText) (service : ℕ) (name : List ℕ) (kind : Kind) (survey : SurveyText)
-    (spots : List Spot) (middle : Table) (way : Option WayIn)
+    (spots all : List Spot) (middle : Table) (told : Told)
     (old new : Found) (form : Form) (reached others : List ℕ) → rules ≡ files → survey ≡ surveyed rules name kind → form ≡ files.form →
     reached ≡ survey.reached → others ≡ other.reached →
-    length old.readers.items ≡ length files.entries → Looks rules modules name service kind survey spots old.asked.items new.asked.items way →
-    Puts (λ spot. HasOtherAnswer rules service name kind spot ⊎ (HasJumpInside rules name kind spot ⊎ InWalk other.faults spot spot.problem))
-    (with_stack service kind) old.table middle →
-    Puts (λ spot. Member spot spots) (with_stack service kind) middle new.table →
+    length old.readers.items ≡ length files.entries →
+    (looks : Looks rules modules name service kind survey spots old.asked.items new.asked.items told) →
+    Adds (HasOtherAnswer rules service name kind looks.verdict) spots all →
+    Puts (λ spot. HasJumpInside rules name kind spot ⊎ InWalk other.faults spot spot.problem) (with_stack service kind) old.table middle →
+    Puts (λ spot. Member spot all) (with_stack service kind) middle new.table →
     Notes (λ file. Member file (files_read form (length old.readers.items) (reached ++ others))) service kind old.readers.items new.readers.items →
     Changes (IsCutOff survey) (also_met service kind old.cut_off) old.cut_off new.cut_off →
-    AddsStack files modules other service name kind old new way
+    AddsStack files modules other service name kind old new told.way_in
 unfolding Member
-adds-stack files rules modules other service name kind survey spots middle way old new form reached others same is is_form is_reached are_others count looks
-    beside puts notes cuts =
+adds-stack files rules modules other service name kind survey spots all middle told old new form reached others same is is_form is_reached are_others
+    count looks answers beside puts notes cuts =
     let here : survey ≡ surveyed files name kind = subst (λ (r : Folder). survey ≡ surveyed r name kind) same is in
     record {
       verdict = looks.verdict;
       is_verdict = subst (λ (r : Folder). IsVerdict r modules name kind looks.verdict) same looks.is_verdict;
       puts =
           let S : SurveyText → Spot → Type 0 = λ s spot. InStack modules service name kind s looks.verdict spot in
-          let A : Folder → Spot → Type 0 = λ f spot.
-          HasOtherAnswer f service name kind spot ⊎ (HasJumpInside f name kind spot ⊎ InWalk other.faults spot spot.problem) in
-          puts-iff (λ spot. A rules spot ⊎ Member spot spots) (InStackOf files modules other service name kind looks.verdict) (with_stack service kind)
+          let A : Folder → Spot → Type 0 = λ f spot. HasJumpInside f name kind spot ⊎ InWalk other.faults spot spot.problem in
+          let O : Folder → Spot → Type 0 = λ f spot. HasOtherAnswer f service name kind looks.verdict spot in
+          puts-iff (λ spot. A rules spot ⊎ Member spot all) (InStackOf files modules other service name kind looks.verdict) (with_stack service kind)
           old.table new.table
           (λ spot. (
             λ w. elim w [
-              | inl a ↦ inr (subst (λ f. A f spot) same a)
-              | inr m ↦ inl (subst (λ s. S s spot) here (elim ((looks.adds.each spot).1 m) [ inl n ↦ absurd n | inr k ↦ k ]))
+              | inl a ↦ inr (inr (subst (λ f. A f spot) same a))
+              | inr m ↦ elim ((answers.each spot).1 m) [
+                | inl l ↦ inl (subst (λ s. S s spot) here (elim ((looks.adds.each spot).1 l) [ inl n ↦ absurd n | inr k ↦ k ]))
+                | inr o ↦ inr (inl (subst (λ f. O f spot) same o))
+              ]
             ],
             λ k. elim k [
-              | inl s ↦ inr ((looks.adds.each spot).0 (inr (subst (λ s. S s spot) (sym here) s)))
-              | inr a ↦ inl (subst (λ f. A f spot) (sym same) a)
+              | inl s ↦ inr ((answers.each spot).0 (inl ((looks.adds.each spot).0 (inr (subst (λ s. S s spot) (sym here) s)))))
+              | inr r ↦ elim r [
+                | inl o ↦ inr ((answers.each spot).0 (inr (subst (λ f. O f spot) (sym same) o)))
+                | inr a ↦ inl (subst (λ f. A f spot) (sym same) a)
+              ]
             ],
           ))
-          (puts-both (A rules) (λ spot. Member spot spots) (with_stack service kind) old.table middle new.table (settles-stack service kind) beside puts);
+          (puts-both (A rules) (λ spot. Member spot all) (with_stack service kind) old.table middle new.table (settles-stack service kind) beside puts);
       notes = subst (λ (l : List ℕ). Notes (λ file. Member file l) service kind old.readers.items new.readers.items)
           (ap (λ (f : Form). files_read f (length old.readers.items) (reached ++ others)) is_form
           ∙ ap (λ (n : ℕ). files_read files.form n (reached ++ others)) count
@@ -219,5 +227,5 @@ adds-stack files rules modules other service name kind survey spots middle way o
           notes;
       asks = subst (λ (s : SurveyText). Adds (Asks s.items looks.verdict) old.asked.items new.asked.items) here looks.asks;
       cuts = subst (λ (s : SurveyText). Changes (IsCutOff s) (also_met service kind old.cut_off) old.cut_off new.cut_off) here cuts;
-      way_in = looks.way_in;
+      way_in = looks.tells.way_in;
     }

@@ -1,5 +1,5 @@
 -- A host whose findings are all notes.
-use Rattle.std.proofs.Common.{◌≡◌, ℕ, ◌<◌, false, List, [], ◌∷◌, ◌++◌, length, get_or, slice_get, refl, sym, ◌∙◌, ap, subst, inl, inr, suc, zero, arith}
+use Rattle.std.proofs.Common.{◌≡◌, ℕ, ◌<◌, false, true, List, [], ◌∷◌, ◌++◌, length, get_or, slice_get, refl, sym, ◌∙◌, ap, subst, inl, inr, suc, zero, arith}
 use Rattle.std.proofs.Common.{Option, Some, None, IfSome, IsSome, is_some, MatchOption, Ok}
 use Rattle.std.specs.Prelude.{unwrap_or}
 use Rattle.std.specs.BTreeMap.{get}
@@ -206,6 +206,15 @@ module _ (host : Host) (named : List (List ℕ)) (found : Table) (ways : List (O
           (number, rule, record { is_there = there; file = refl; line = refl }, wrong_is) in
           let In : Option Items → Type 0 = λ o. InItems host.modules name kind o spot spot.problem in
           met-note spot service kind (within, inr (inl (inr (inl (subst In (sym given) has)))), λ e. absurd cc);
+      caller = λ number rule there daemon is_root.
+          let spot : Spot = record { file = Some rule.file; line = rule.line; problem = problems.CallerIsRoot true } in
+          let name = service_at host service in
+          let given : survey.items ≡ Some j.items = ((stack_is_sound host.folder name kind j.items).0 h.stack).0 in
+          let has : InItems host.modules name kind (Some j.items) spot spot.problem =
+          (number, rule, record { is_there = there; file = refl; line = refl }, (is_root, sym daemon)) in
+          let In : Option Items → Type 0 = λ o. InItems host.modules name kind o spot spot.problem in
+          let note : Warning ≡ Note = met-note spot service kind (within, inr (inl (inr (inl (subst In (sym given) has)))), λ e. absurd cc) in
+          absurd cc;
       whole = λ number rule lack there lack_is.
           let spot : Spot = record { file = Some rule.file; line = rule.line; problem = problems.BadArguments lack } in
           let name = service_at host service in

@@ -1,8 +1,11 @@
 -- The problems that a verdict gives.
 use Rattle.std.proofs.Common.{◌≡◌, ◌⊎◌, ◌↔◌, ℕ, Bool, true, false, List, [], ◌∷◌, ◌++◌, refl, sym, ◌∙◌, ap, subst, inl, inr, Option, IsSome}
+use Rattle.std.specs.Option.{option_map_or}
 use Rattle.pam_conf.specs.declared.rule.Kind.{Kind}
 use Rattle.pam_conf.specs.declared.rule.Kind.TheVariants.{Auth}
 use Rattle.pam_text.specs.Members.{Member}
+use Rattle.pam_findings.specs.host.Faillock.{has_task}
+use Rattle.pam_findings.specs.host.inner.Halves.{HalfIn, HalvesIn}
 use Rattle.pam_findings.specs.host.inner.Looked.{OfModules, VainIn}
 use Rattle.pam_findings.specs.host.StackProblems.{ByVerdict}
 use Rattle.pam_findings.specs.host.inner.Table.{Adds}
@@ -44,6 +47,22 @@ adds-vain kind j old new lets h =
 pub adds-no-vain : (kind : Kind) (j : Judgement) (spots : List Spot) → (kind ≡ Auth → j.nobody ≡ false → ⊥) → Adds (VainIn kind j) spots spots
 adds-no-vain kind j spots none = adds-none (VainIn kind j) spots (λ spot v. none v.auth v.somebody)
 
+one-half : (j : Judgement) (spot : Spot) (counts : Bool) → HalfIn j.items j.never_asked counts spot →
+    HalfIn j.items j.never_asked false spot ⊎ HalfIn j.items j.never_asked true spot
+one-half j spot false h = inl h
+one-half j spot true h = inr h
+
+-- rules of pam_faillock with one task alone
+pub adds-halves : (kind : Kind) (j : Judgement) (old middle new : List Spot) → kind ≡ Auth → Adds (HalfIn j.items j.never_asked false) old middle →
+    Adds (HalfIn j.items j.never_asked true) middle new → Adds (HalvesIn kind j) old new
+adds-halves kind j old middle new auth h k =
+    adds-iff (λ spot. HalfIn j.items j.never_asked false spot ⊎ HalfIn j.items j.never_asked true spot) (HalvesIn kind j) old new
+    (λ spot. (
+      λ w. elim w [ inl a ↦ record { auth = auth; counts = false; half = a } | inr a ↦ record { auth = auth; counts = true; half = a } ],
+      λ v. one-half j spot v.counts v.half,
+    ))
+    (adds-both (HalfIn j.items j.never_asked false) (HalfIn j.items j.never_asked true) old middle new h k)
+
 module _ (at : Stacked) (j : Judgement) (nobody anybody : Bool) (says_nobody : (nobody ≡ true) ↔ ((j.nobody ≡ true) × HasOther j.items))
     (says_anybody : (anybody ≡ true) ↔ ((at.kind ≡ Auth) × IsSome j.way)) where
   By : Spot → Problem → Type 0
@@ -52,45 +71,74 @@ module _ (at : Stacked) (j : Judgement) (nobody anybody : Bool) (says_nobody : (
   abbrev Vain : Spot → Type 0
   Vain spot = VainIn at.kind j spot
 
+  abbrev Half : Spot → Type 0
+  Half spot = HalvesIn at.kind j spot
+
   Parts : Spot → Type 0
   Parts spot =
-      ((((nobody ≡ true) × (spot ≡ spot_of at (problems.LetsNobodyIn at.service at.kind)))
+      (((((nobody ≡ true) × (spot ≡ spot_of at (problems.LetsNobodyIn at.service at.kind)))
       ⊎ ((anybody ≡ true) × (spot ≡ spot_of at (problems.LetsAnybodyIn at.service))))
       ⊎ OfModules problems.JumpPastEnd j.items (λ number. Member number j.jumps) spot)
-      ⊎ Vain spot
+      ⊎ Vain spot)
+      ⊎ Half spot
 
   to-verdict : (spot : Spot) → Parts spot → By spot spot.problem
   unfolding By Parts
-  to-verdict spot (inl (inl (inl h))) = subst (λ (s : Spot). By s s.problem) (sym h.1) (refl, refl, (refl, refl), says_nobody.0 h.0)
-  to-verdict spot (inl (inl (inr h))) =
+  to-verdict spot (inl (inl (inl (inl h)))) = subst (λ (s : Spot). By s s.problem) (sym h.1) (refl, refl, (refl, refl), says_nobody.0 h.0)
+  to-verdict spot (inl (inl (inl (inr h)))) =
       let k = says_anybody.0 h.0 in
       subst (λ (s : Spot). By s s.problem) (sym h.1) (refl, k.0, (refl, refl), k.1)
-  to-verdict spot (inl (inr m)) = subst (By spot) (sym m.of.problem_is) (m.number, m.of.rule, m.of.at, m.one)
-  to-verdict spot (inr v) =
+  to-verdict spot (inl (inl (inr m))) = subst (By spot) (sym m.of.problem_is) (m.number, m.of.rule, m.of.at, m.one)
+  to-verdict spot (inl (inr v)) =
       let m = v.of in
       subst (By spot) (sym m.of.problem_is) (v.auth, (v.somebody, (m.number, m.of.rule, m.of.at, m.one)))
+  to-verdict spot (inr v) =
+      let m = v.half.of in
+      subst (By spot) (sym m.of.problem_is) (
+        v.auth,
+        (
+          m.number,
+          m.of.rule,
+          m.of.at,
+          (sym (ap (λ o. option_map_or (has_task v.counts) o false) m.of.at.is_there) ∙ m.one, v.half.none),
+        ),
+      )
 
   from-verdict : (file : Option ℕ) (line : ℕ) (problem : Problem) →
       (let spot : Spot = record { file = file; line = line; problem = problem } in By spot problem → Parts spot)
   unfolding By Parts
   from-verdict file line (problems.LetsNobodyIn service kind) h =
-      inl (inl (inl (
+      inl (inl (inl (inl (
         says_nobody.1 h.3,
         same-spot _ _ h.2.0 h.2.1 (ap (λ s. problems.LetsNobodyIn s kind) h.0 ∙ ap (problems.LetsNobodyIn at.service) h.1),
-      )))
+      ))))
   from-verdict file line (problems.LetsAnybodyIn service) h =
-      inl (inl (inr (says_anybody.1 (h.1, h.3), same-spot _ _ h.2.0 h.2.1 (ap problems.LetsAnybodyIn h.0))))
+      inl (inl (inl (inr (says_anybody.1 (h.1, h.3), same-spot _ _ h.2.0 h.2.1 (ap problems.LetsAnybodyIn h.0)))))
   from-verdict file line problems.JumpPastEnd h =
-      inl (inr record { number = h.0; one = h.3; of = record { problem_is = refl; rule = h.1; at = h.2 } })
+      inl (inl (inr record { number = h.0; one = h.3; of = record { problem_is = refl; rule = h.1; at = h.2 } }))
   from-verdict file line problems.SuccessNeverCounts h =
       let m = h.1.1 in
-      inr record {
+      inl (inr record {
         auth = h.0;
         somebody = h.1.0;
         of = record { number = m.0; one = m.3; of = record { problem_is = refl; rule = m.1; at = m.2 } };
+      })
+  from-verdict file line (problems.NotCounted counts) h =
+      let m = h.1 in
+      inr record {
+        auth = h.0;
+        counts = counts;
+        half = record {
+          none = m.3.1;
+          of = record {
+            number = m.0;
+            one = ap (λ o. option_map_or (has_task counts) o false) m.2.is_there ∙ m.3.0;
+            of = record { problem_is = refl; rule = m.1; at = m.2 };
+          };
+        };
       }
   from-verdict file line (problems.TooLarge service kind) h = absurd cc
-  from-verdict file line (problems.OtherAnswers service kind) h = absurd h
+  from-verdict file line (problems.OtherAnswers service kind has_no_rule lets_nobody_in) h = absurd h
   from-verdict file line (problems.Fault fault) h = absurd h
   from-verdict file line (problems.Walk fault) h = absurd h
   from-verdict file line (problems.Released difference) h = absurd h
@@ -102,24 +150,27 @@ module _ (at : Stacked) (j : Judgement) (nobody anybody : Bool) (says_nobody : (
   from-verdict file line problems.LeftOver h = absurd h
   from-verdict file line problems.JumpIntoInclude h = absurd h
   from-verdict file line problems.NoFunction h = absurd h
-  from-verdict file line problems.CallerIsRoot h = absurd h
+  from-verdict file line (problems.CallerIsRoot is_daemon) h = absurd h
   from-verdict file line (problems.Argument argument wrong) h = absurd h
   from-verdict file line (problems.BadArguments lack) h = absurd h
   from-verdict file line problems.EmptySeparator h = absurd h
   from-verdict file line problems.UnknownModule h = absurd h
 
-  pub adds-judged : (old first second third new : List Spot) →
+  pub adds-judged : (old first second third fourth new : List Spot) →
       Adds (λ spot. (nobody ≡ true) × (spot ≡ spot_of at (problems.LetsNobodyIn at.service at.kind))) old first →
       Adds (λ spot. (anybody ≡ true) × (spot ≡ spot_of at (problems.LetsAnybodyIn at.service))) first second →
       Adds (OfModules problems.JumpPastEnd j.items (λ number. Member number j.jumps)) second third →
-      Adds (VainIn at.kind j) third new →
+      Adds (VainIn at.kind j) third fourth →
+      Adds (HalvesIn at.kind j) fourth new →
       Adds (λ spot. ByVerdict at.service at.kind at.home (Judged j) spot spot.problem) old new
   unfolding By Parts
-  adds-judged old first second third new a b c d =
+  adds-judged old first second third fourth new a b c d e =
       let A : Spot → Type 0 = λ spot. (nobody ≡ true) × (spot ≡ spot_of at (problems.LetsNobodyIn at.service at.kind)) in
       let B : Spot → Type 0 = λ spot. (anybody ≡ true) × (spot ≡ spot_of at (problems.LetsAnybodyIn at.service)) in
       let C : Spot → Type 0 = OfModules problems.JumpPastEnd j.items (λ number. Member number j.jumps) in
-      adds-iff (λ spot. ((A spot ⊎ B spot) ⊎ C spot) ⊎ Vain spot) (λ spot. ByVerdict at.service at.kind at.home (Judged j) spot spot.problem) old new
+      adds-iff (λ spot. (((A spot ⊎ B spot) ⊎ C spot) ⊎ Vain spot) ⊎ Half spot)
+      (λ spot. ByVerdict at.service at.kind at.home (Judged j) spot spot.problem) old new
       (λ spot. (to-verdict spot, from-verdict spot.file spot.line spot.problem))
-      (adds-both (λ spot. (A spot ⊎ B spot) ⊎ C spot) Vain old third new
-      (adds-both (λ spot. A spot ⊎ B spot) C old second third (adds-both A B old first second a b) c) d)
+      (adds-both (λ spot. ((A spot ⊎ B spot) ⊎ C spot) ⊎ Vain spot) Half old fourth new
+      (adds-both (λ spot. (A spot ⊎ B spot) ⊎ C spot) Vain old third fourth
+      (adds-both (λ spot. A spot ⊎ B spot) C old second third (adds-both A B old first second a b) c) d) e)

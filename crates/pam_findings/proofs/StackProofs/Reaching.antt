@@ -169,7 +169,8 @@ module _ (allows : Allowance) (program : List FlatItem) (items : Items) (of : Is
         (reach allows 0 (modules_of program) (runs_of program) codes number code b rise ok gives reached.reached.1 here)
 
   -- a module that the open run asks is asked by the run of the tree
-  abbrev pub on-tree : (number code decision : ℕ) → Reaches allows (modules_of program) (runs_of program) number code decision → AsksWith allows items number code
+  abbrev pub on-tree : (number code decision : ℕ) → Reaches allows (modules_of program) (runs_of program) number code decision →
+      AsksWith allows items number code
   on-tree number code decision r = record {
     asks = record {
       answers = r.answers;

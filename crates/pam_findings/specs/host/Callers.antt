@@ -8,15 +8,30 @@ use Rattle.pam_conf.specs.declared.rule.Kind.{Kind}
 use Rattle.pam_conf.specs.declared.rule.Kind.TheVariants.{Auth}
 use Rattle.pam_facts.specs.Paths.{module_name}
 
--- the services of programs that users start themselves: set-user-ID programs, and tools of root
+-- the services of programs that users start themselves: set-user-ID programs, tools of root, and what locks a screen
 unfoldable pub user_services : List (List ℕ)
 user_services =
     codes "su" ∷ codes "su-l" ∷ codes "runuser" ∷ codes "runuser-l" ∷ codes "sudo" ∷ codes "sudo-i" ∷ codes "pkexec" ∷ codes "polkit-1"
-    ∷ codes "passwd" ∷ codes "chsh" ∷ codes "chfn" ∷ codes "chpasswd" ∷ codes "newusers" ∷ codes "useradd" ∷ codes "userdel" ∷ codes "usermod"
-    ∷ codes "groupadd" ∷ codes "groupdel" ∷ codes "groupmod" ∷ codes "at" ∷ codes "crontab" ∷ []
+    ∷ codes "passwd" ∷ codes "chsh" ∷ codes "chfn" ∷ codes "chpasswd" ∷ codes "newusers" ∷ codes "useradd" ∷ codes "userdel"
+    ∷ codes "usermod" ∷ codes "groupadd" ∷ codes "groupdel" ∷ codes "groupmod" ∷ codes "at" ∷ codes "crontab" ∷ codes "schroot"
+    ∷ codes "doas" ∷ codes "chage" ∷ codes "groupmems" ∷ codes "newrole" ∷ codes "run_init" ∷ codes "screen" ∷ codes "vlock"
+    ∷ codes "physlock" ∷ codes "xscreensaver" ∷ codes "i3lock" ∷ codes "swaylock" ∷ codes "kde" ∷ []
+
+-- the services of daemons that run as root, and ask on behalf of whoever comes
+unfoldable pub daemon_services : List (List ℕ)
+daemon_services =
+    codes "sshd" ∷ codes "login" ∷ codes "remote" ∷ codes "rlogin" ∷ codes "rsh" ∷ codes "gdm" ∷ codes "gdm-password"
+    ∷ codes "gdm-autologin" ∷ codes "gdm-fingerprint" ∷ codes "gdm-smartcard" ∷ codes "gdm-launch-environment" ∷ codes "lightdm"
+    ∷ codes "lightdm-autologin" ∷ codes "lightdm-greeter" ∷ codes "sddm" ∷ codes "sddm-autologin" ∷ codes "sddm-greeter" ∷ codes "xdm"
+    ∷ codes "kdm" ∷ codes "lxdm" ∷ codes "slim" ∷ codes "wdm" ∷ codes "greetd" ∷ codes "ftp" ∷ codes "vsftpd" ∷ codes "proftpd"
+    ∷ codes "pure-ftpd" ∷ codes "dovecot" ∷ codes "imap" ∷ codes "pop3" ∷ codes "smtp" ∷ codes "cron" ∷ codes "crond" ∷ codes "atd"
+    ∷ codes "cockpit" ∷ codes "xrdp-sesman" ∷ codes "samba" ∷ codes "cups" ∷ codes "ppp" ∷ []
 
 abbrev pub is_user_service : List ℕ → Bool
 is_user_service service = list_any (bytes_eq service) user_services
+
+abbrev pub is_daemon_service : List ℕ → Bool
+is_daemon_service service = list_any (bytes_eq service) daemon_services
 
 abbrev pub has_argument : List ℕ → List (List ℕ) → Bool
 has_argument wanted arguments = list_any (λ argument. bytes_eq argument wanted) arguments

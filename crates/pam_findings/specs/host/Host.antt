@@ -44,7 +44,7 @@ reads_at host service kind =
 abbrev pub InStackOf : Folder → Modules → SurveyText → ℕ → List ℕ → Kind → Verdict → Spot → Type 0
 InStackOf folder modules other service name kind verdict spot =
     InStack modules service name kind (surveyed folder name kind) verdict spot
-    ⊎ (HasOtherAnswer folder service name kind spot ⊎ (HasJumpInside folder name kind spot ⊎ InWalk other.faults spot spot.problem))
+    ⊎ (HasOtherAnswer folder service name kind verdict spot ⊎ (HasJumpInside folder name kind spot ⊎ InWalk other.faults spot spot.problem))
 
 -- a problem of a file that is read for a stack
 abbrev pub InFile : Host → Spot → ℕ → Kind → Type 0

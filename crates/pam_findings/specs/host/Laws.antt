@@ -1,5 +1,5 @@
 -- What the definitions imply.
-use Rattle.std.specs.Prelude.{◌≡◌, ℕ, ◌<◌, All, List, length, map, slice_index_or, Option, Some, None, Ok}
+use Rattle.std.specs.Prelude.{◌≡◌, ℕ, ◌<◌, true, All, List, length, map, slice_index_or, Option, Some, None, Ok}
 use Rattle.std.specs.BTreeMap.{BTreeMap}
 use Rattle.pam_arguments.specs.declared.lacks.Lack.{Lack}
 use Rattle.pam_findings.specs.stack.Asked.{AsksWith}
@@ -16,6 +16,7 @@ use Rattle.pam_paths.specs.Known.{may_answer}
 use Rattle.pam_paths.specs.Listing.{Allowance, IsAllowed}
 use Rattle.pam_paths.specs.Paths.{PathValue}
 use Rattle.pam_paths.specs.declared.knowledge.Known.{Known}
+use Rattle.pam_findings.specs.host.Callers.{caller_is_root, is_daemon_service}
 use Rattle.pam_findings.specs.host.Host.{Host, service_at}
 use Rattle.pam_findings.specs.host.Arguments.{lack_in, wrong_argument}
 use Rattle.pam_findings.specs.host.Levels.{level_of, level_of_argument}
@@ -34,8 +35,8 @@ IsSilent found = All (λ entry. level_of entry.1.problem ≡ Note) found.entries
 
 -- A SOUND STACK of a service for a kind: it is accepted; some answers let somebody in, unless its modules only deny and warn; for
 -- auth, none let in anybody whose checks all fail, and if somebody is let in, each module that says who logs in and may succeed does so
--- in some run that lets somebody in; no module has an argument that it does not take, but for what is a note; and the arguments of none
--- lack anything
+-- in some run that lets somebody in; no module looks at the user of the process where that is root, in the service of a daemon; no module
+-- has an argument that it does not take, but for what is a note; and the arguments of none lack anything
 pub record IsSoundStack (host : Host) (service : ℕ) (kind : Kind) : Type 0 where
   pub items : Items
   pub stack : resolved host.folder (service_at host service) kind ≡ Ok items
@@ -49,6 +50,8 @@ pub record IsSoundStack (host : Host) (service : ℕ) (kind : Kind) : Type 0 whe
       AsksWith (may_answer free) items number success → Counts (may_answer free) items number
   pub arguments : (number : ℕ) (rule : ModuleText) (position : ℕ) (wrong : ArgumentProblem) → module_at number items ≡ Some rule →
       wrong_argument kind rule position ≡ Some wrong → level_of_argument wrong ≡ Note
+  pub caller : (number : ℕ) (rule : ModuleText) → module_at number items ≡ Some rule → is_daemon_service (service_at host service) ≡ true →
+      caller_is_root kind (service_at host service) rule ≡ true → ⊥
   pub whole : (number : ℕ) (rule : ModuleText) (lack : Lack) → module_at number items ≡ Some rule → lack_in kind rule ≡ Some lack → ⊥
 
 -- each stack of a host without such a finding is sound

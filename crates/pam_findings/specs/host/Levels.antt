@@ -1,5 +1,5 @@
 -- How grave the findings of a host are.
-use Rattle.std.specs.Prelude.{if◌then◌else◌}
+use Rattle.std.specs.Prelude.{Bool, false, if◌then◌else◌}
 use Rattle.pam_arguments.specs.declared.verdict.Reaction.TheVariants.{Ignores}
 use Rattle.pam_conf.specs.declared.error.FaultKind.{FaultKind}
 use Rattle.pam_conf.specs.declared.error.FaultKind.TheVariants as faults
@@ -28,8 +28,13 @@ level_of_argument (arguments.Unknown Ignores) = Note
 level_of_argument arguments.OtherKind = Note
 level_of_argument wrong = Warning
 
+-- where `other` lets somebody in, a service may leave one of its kinds to it on purpose
+abbrev pub level_of_answer : Bool → Bool → Level
+level_of_answer false false = Note
+level_of_answer has_no_rule lets_nobody_in = Warning
+
 -- Debian's Linux-PAM refuses the whole configuration where an `@include` has no file, and makes another rule without one fail. A dash
--- before the kind of a rule says that its module may not be there
+-- before the kind of a rule says that its module may not be there. A daemon asks on behalf of whoever comes
 abbrev pub level_of : Problem → Level
 level_of (problems.Fault fault) = level_of_fault fault
 level_of (problems.Walk fault) = level_of_fault fault
@@ -38,9 +43,9 @@ level_of (problems.IncludedFromVendor is_at_include) = if is_at_include then Err
 level_of problems.NeverAsked = Note
 level_of (problems.NoModule is_dashed) = if is_dashed then Note else Warning
 level_of problems.NoOther = Note
-level_of (problems.OtherAnswers service kind) = Note
+level_of (problems.OtherAnswers service kind has_no_rule lets_nobody_in) = level_of_answer has_no_rule lets_nobody_in
 level_of problems.LeftOver = Note
-level_of problems.CallerIsRoot = Note
+level_of (problems.CallerIsRoot is_daemon) = if is_daemon then Warning else Note
 level_of problems.UnknownModule = Note
 level_of (problems.Argument argument wrong) = level_of_argument wrong
 level_of problem = Warning

@@ -1,12 +1,17 @@
--- S10: `other` answers for one of auth and account, though the service has rules for the other one: pam.conf(5), on `other`.
-use Rattle.std.specs.Prelude.{◌≡◌, ℕ, true, false, List, MatchOption, slice_get, Option, Some, None}
-use Rattle.pam_conf.specs.Files.{Folder}
+-- S10: `other` answers for one of auth and account, though the service has rules for the other one, or a file without a rule:
+-- pam.conf(5), on `other`.
+use Rattle.std.specs.Prelude.{◌≡◌, ◌⊎◌, ℕ, Bool, true, false, List, [], ◌∷◌, MatchOption, slice_get, Option, Some, None}
+use Rattle.std.specs.Option.{option_and_then, option_map_or}
+use Rattle.pam_conf.specs.FileRules.{good_rules}
+use Rattle.pam_conf.specs.Files.{Folder, bytes_at, position_of}
 use Rattle.pam_conf.specs.Laws.{IsSound}
+use Rattle.pam_conf.specs.Rule.{RuleText}
 use Rattle.pam_conf.specs.Stack.{End}
 use Rattle.pam_conf.specs.Survey.{surveyed}
 use Rattle.pam_conf.specs.Targets.{is_target}
 use Rattle.pam_conf.specs.declared.rule.Kind.{Kind}
 use Rattle.pam_conf.specs.declared.rule.Kind.TheVariants.{Auth, Account}
+use Rattle.pam_findings.specs.host.Verdicts.{Verdict, refuses_all}
 use Rattle.pam_findings.specs.declared.host.problem.Problem.TheVariants as problems
 use Rattle.pam_findings.specs.declared.host.problem.Spot.{Spot}
 
@@ -26,13 +31,27 @@ pub record IsOfOther (folder : Folder) (name : List ℕ) (kind : Kind) : Type 0 
   pub items : (surveyed folder name kind).items ≡ Some End → ⊥
   pub sound : IsSound folder (surveyed folder name kind)
 
--- it has rules of its own for the other kind, and its file is not one that others include
-abbrev pub OtherAnswers : Folder → List ℕ → Kind → Type 0
-OtherAnswers folder name kind = IsOfOther folder name kind × MatchOption (partner kind) ⊥ (HasOwnRules folder name) × (is_target folder name ≡ false)
+-- there are no rules
+abbrev pub is_without : List RuleText → Bool
+is_without [] = true
+is_without (rule ∷ rules) = false
 
--- S10, at line 0 of the file of the service's rules
-pub record HasOtherAnswer (folder : Folder) (service : ℕ) (name : List ℕ) (kind : Kind) (spot : Spot) : Type 0 where
-  pub problem : spot.problem ≡ problems.OtherAnswers service kind
+-- a file has this name, and no line of it is a rule: it is empty, or has blank lines and comments alone
+abbrev pub has_no_rule : Folder → List ℕ → Bool
+has_no_rule folder name =
+    option_map_or (λ bytes. is_without (good_rules folder.form bytes)) (option_and_then (λ file. bytes_at file folder.entries)
+    (position_of name folder.entries)) false
+
+-- it has rules of its own for the other kind, or a file without a rule; and its file is not one that others include
+abbrev pub OtherAnswers : Folder → List ℕ → Kind → Type 0
+OtherAnswers folder name kind =
+    IsOfOther folder name kind
+    × MatchOption (partner kind) ⊥ (λ other. HasOwnRules folder name other ⊎ (has_no_rule folder name ≡ true))
+    × (is_target folder name ≡ false)
+
+-- S10, at line 0 of the file of the service's rules, where this is the verdict on the stack of `other`
+pub record HasOtherAnswer (folder : Folder) (service : ℕ) (name : List ℕ) (kind : Kind) (verdict : Verdict) (spot : Spot) : Type 0 where
+  pub problem : spot.problem ≡ problems.OtherAnswers service kind (has_no_rule folder name) (refuses_all verdict)
   pub file : spot.file ≡ slice_get (surveyed folder name kind).reached 0
   pub line : spot.line ≡ 0
   pub answers : OtherAnswers folder name kind

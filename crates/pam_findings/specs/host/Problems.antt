@@ -1,5 +1,5 @@
 -- The problems of a host, in the order in which they are listed.
-use Rattle.std.specs.Prelude.{ℕ, ◌+◌, if◌then◌else◌}
+use Rattle.std.specs.Prelude.{ℕ, ◌+◌, ◌*◌, Bool, if◌then◌else◌}
 use Rattle.std.specs.Option.{option_cmp}
 use Rattle.std.specs.Ordering.{nat_cmp, ordering_then}
 use Rattle.std.specs.declared.cmp.Ordering.{Ordering}
@@ -67,13 +67,14 @@ rank_of (problems.NoModule is_dashed) = 65
 rank_of problems.NoOther = 66
 rank_of problems.UnreachableName = 67
 rank_of (problems.TooLarge service kind) = 69
-rank_of (problems.OtherAnswers service kind) = 70
+rank_of (problems.OtherAnswers service kind has_no_rule lets_nobody_in) = 70
 rank_of problems.LeftOver = 71
 rank_of problems.JumpIntoInclude = 72
 rank_of problems.NoFunction = 73
-rank_of problems.CallerIsRoot = 74
+rank_of (problems.CallerIsRoot is_daemon) = 74
 rank_of (problems.Argument argument wrong) = rank_of_argument wrong
 rank_of (problems.BadArguments lack) = 79
+rank_of (problems.NotCounted counts) = 82
 rank_of problems.UnknownModule = 85
 rank_of problems.SuccessNeverCounts = 86
 
@@ -82,6 +83,11 @@ number_of_kind Auth = 0
 number_of_kind Account = 1
 number_of_kind Password = 2
 number_of_kind Session = 3
+
+-- the number of a kind for which `other` answers, of why it does, and of whether it lets nobody in
+abbrev pub number_of_answer : Kind → Bool → Bool → ℕ
+number_of_answer kind has_no_rule lets_nobody_in =
+    4 * number_of_kind kind + (if has_no_rule then 2 else 0) + (if lets_nobody_in then 1 else 0)
 
 abbrev pub number_of_reaction : Reaction → ℕ
 number_of_reaction Ignores = 0
@@ -105,18 +111,21 @@ abbrev pub service_of : Problem → ℕ
 service_of (problems.LetsNobodyIn service kind) = service
 service_of (problems.LetsAnybodyIn service) = service
 service_of (problems.TooLarge service kind) = service
-service_of (problems.OtherAnswers service kind) = service
+service_of (problems.OtherAnswers service kind has_no_rule lets_nobody_in) = service
 service_of (problems.Argument argument wrong) = argument
 service_of problem = 0
 
--- the number of its kind; L10 of an `@include` has another one than that of a rule with a kind, S5 of a dashed rule than that of a
--- rule without a dash, S15 has one for what the module does, and S19 one for what is lacking
+-- the number of its kind, in S10 with what tells of `other`; L10 of an `@include` has another one than that of a rule with a kind, S5 of
+-- a dashed rule than that of a rule without a dash, S14 of a daemon than that of another service, S22 of a rule that counts than that
+-- of another, S15 has one for what the module does, and S19 one for what is lacking
 abbrev pub kind_of : Problem → ℕ
 kind_of (problems.LetsNobodyIn service kind) = number_of_kind kind
 kind_of (problems.TooLarge service kind) = number_of_kind kind
-kind_of (problems.OtherAnswers service kind) = number_of_kind kind
+kind_of (problems.OtherAnswers service kind has_no_rule lets_nobody_in) = number_of_answer kind has_no_rule lets_nobody_in
 kind_of (problems.IncludedFromVendor is_at_include) = if is_at_include then 1 else 0
 kind_of (problems.NoModule is_dashed) = if is_dashed then 1 else 0
+kind_of (problems.CallerIsRoot is_daemon) = if is_daemon then 1 else 0
+kind_of (problems.NotCounted counts) = if counts then 1 else 0
 kind_of (problems.Argument argument wrong) = reaction_of wrong
 kind_of (problems.BadArguments lack) = number_of_lack lack
 kind_of problem = 0

@@ -1,5 +1,5 @@
 -- What is wrong with a stack.
-use Rattle.std.specs.Prelude.{◌≡◌, ◌⊎◌, ℕ, true, false, List, [], IsSome, MatchOption, slice_get, Option, Some, None}
+use Rattle.std.specs.Prelude.{◌≡◌, ◌⊎◌, ℕ, Bool, true, false, List, [], IsSome, MatchOption, slice_get, Option, Some, None}
 use Rattle.pam_conf.specs.FileRules.{good_rules}
 use Rattle.pam_conf.specs.Files.{Folder, bytes_at}
 use Rattle.pam_conf.specs.Rule.{RuleText}
@@ -12,7 +12,8 @@ use Rattle.pam_text.specs.Members.{Member}
 use Rattle.pam_paths.specs.Known.{may_answer}
 use Rattle.pam_paths.specs.Paths.{PathValue}
 use Rattle.pam_findings.specs.host.Arguments.{lack_in, wrong_argument}
-use Rattle.pam_findings.specs.host.Callers.{caller_is_root}
+use Rattle.pam_findings.specs.host.Callers.{caller_is_root, is_daemon_service}
+use Rattle.pam_findings.specs.host.Faillock.{IsHalf}
 use Rattle.pam_findings.specs.host.Modules.{Modules}
 use Rattle.pam_findings.specs.host.Separators.{lacks_separator}
 use Rattle.pam_findings.specs.host.UnknownModules.{IsUnknown}
@@ -47,7 +48,7 @@ ModuleHas modules name kind rule problems.NeverAsked = is_other rule ≡ true
 ModuleHas modules name kind rule problems.EmptySeparator = lacks_separator rule ≡ true
 ModuleHas modules name kind rule (problems.NoModule is_dashed) = (is_missing modules rule ≡ true) × (is_dashed ≡ rule.dashed)
 ModuleHas modules name kind rule problems.NoFunction = has_no_function modules.facts kind rule ≡ true
-ModuleHas modules name kind rule problems.CallerIsRoot = caller_is_root kind name rule ≡ true
+ModuleHas modules name kind rule (problems.CallerIsRoot is_daemon) = (caller_is_root kind name rule ≡ true) × (is_daemon ≡ is_daemon_service name)
 ModuleHas modules name kind rule problems.UnknownModule = IsUnknown modules kind rule
 ModuleHas modules name kind rule (problems.Argument argument wrong) = wrong_argument kind rule argument ≡ Some wrong
 ModuleHas modules name kind rule (problems.BadArguments lack) = lack_in kind rule ≡ Some lack
@@ -96,12 +97,18 @@ SucceedsInVain TooLarge spot = ⊥
 SucceedsInVain (Judged j) spot =
     (j.nobody ≡ false) × HasModule j.items spot (λ number rule. Member number j.never_counts × SaysWhoLogsIn j.failing number)
 
+-- S22: a rule of pam_faillock counts failures, or refuses who failed too often, and no run asks one that does the other
+abbrev pub CountsInVain : Verdict → Bool → Spot → Type 0
+CountsInVain Refused counts spot = ⊥
+CountsInVain TooLarge counts spot = ⊥
+CountsInVain (Judged j) counts spot = HasModule j.items spot (λ number rule. IsHalf j counts rule)
+
 -- BY THE VERDICT on the stack of a service for a kind, where a whole stack is at line 0 of the file of its first rules
 
 abbrev pub IsHome : Option ℕ → Spot → Type 0
 IsHome home spot = (spot.file ≡ home) × (spot.line ≡ 0)
 
--- S1, S2, S4, S9 and S26
+-- S1, S2, S4, S9, S22 and S26
 abbrev pub ByVerdict : ℕ → Kind → Option ℕ → Verdict → Spot → Problem → Type 0
 ByVerdict service kind home verdict spot (problems.LetsNobodyIn of_service of_kind) =
     (of_service ≡ service) × (of_kind ≡ kind) × IsHome home spot × LetsNobody verdict
@@ -111,6 +118,7 @@ ByVerdict service kind home verdict spot (problems.TooLarge of_service of_kind) 
     (of_service ≡ service) × (of_kind ≡ kind) × IsHome home spot × (verdict ≡ TooLarge)
 ByVerdict service kind home verdict spot problems.JumpPastEnd = Jumps verdict spot
 ByVerdict service kind home verdict spot problems.SuccessNeverCounts = (kind ≡ Auth) × SucceedsInVain verdict spot
+ByVerdict service kind home verdict spot (problems.NotCounted counts) = (kind ≡ Auth) × CountsInVain verdict counts spot
 ByVerdict service kind home verdict spot problem = ⊥
 
 -- A PROBLEM OF A STACK itself, by the survey of a service and the verdict

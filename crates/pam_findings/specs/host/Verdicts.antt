@@ -16,12 +16,14 @@ use Rattle.pam_dispatch.specs.State.{success}
 use Rattle.pam_facts.specs.Answers.{Allows, failing_answers, free_answers, is_there}
 use Rattle.pam_facts.specs.Facts.{has_function}
 use Rattle.pam_facts.specs.Fitting.{fact_of}
+use Rattle.pam_facts.specs.Missing.{where_there}
 use Rattle.pam_facts.specs.Paths.{module_name}
 use Rattle.pam_facts.specs.Rows.{Row}
 use Rattle.pam_paths.specs.Known.{may_answer}
 use Rattle.pam_paths.specs.Listing.{Allowance}
 use Rattle.pam_paths.specs.Paths.{PathValue, StepValue}
 use Rattle.pam_paths.specs.declared.knowledge.Known.{Known}
+use Rattle.pam_findings.specs.host.Failing.{with_failures}
 use Rattle.pam_findings.specs.host.Modules.{Modules}
 use Rattle.pam_findings.specs.declared.host.way_in.Answered.{Answered}
 
@@ -43,12 +45,17 @@ pub data Verdict : Type 0 where
   TooLarge : Verdict
   Judged : Judgement → Verdict
 
+-- the codes of modules, if these are what facts say: one that does not take its arguments fails, and one that is not there answers
+-- module_unknown alone
+abbrev pub as_they_are : Modules → Kind → Items → (ℕ → List ℕ) → ℕ → List ℕ
+as_they_are modules kind items codes = where_there modules.there items (with_failures kind items codes)
+
 -- the answers of the modules of a stack, as far as facts say, and those if each module that checks who logs in fails
 abbrev pub IsFree : Modules → Kind → Items → Known → Type 0
-IsFree modules kind items known = Allows (module_count items) known (free_answers kind modules.facts modules.there items)
+IsFree modules kind items known = Allows (module_count items) known (as_they_are modules kind items (free_answers kind modules.facts None items))
 
 abbrev pub IsFailing : Modules → Kind → Items → Known → Type 0
-IsFailing modules kind items known = Allows (module_count items) known (failing_answers kind modules.facts modules.there items)
+IsFailing modules kind items known = Allows (module_count items) known (as_they_are modules kind items (failing_answers kind modules.facts None items))
 
 -- the stack of a service for a kind
 module _ (folder : Folder) (modules : Modules) (service : List ℕ) (kind : Kind) where
@@ -94,6 +101,12 @@ abbrev pub LetsNobody : Verdict → Type 0
 LetsNobody Refused = ⊥
 LetsNobody TooLarge = ⊥
 LetsNobody (Judged j) = (j.nobody ≡ true) × HasOther j.items
+
+-- S10: the stack is known to let nobody in
+abbrev pub refuses_all : Verdict → Bool
+refuses_all Refused = false
+refuses_all TooLarge = false
+refuses_all (Judged j) = j.nobody
 
 abbrev pub way_in_of : Verdict → Option PathValue
 way_in_of Refused = None

@@ -2,7 +2,9 @@
 pub mod Besides
 pub mod Checking
 pub mod CutOff
+pub mod Halves
 pub mod Insides
+pub mod Lefts
 pub mod Looked
 pub mod Meeting
 pub mod OfFolder

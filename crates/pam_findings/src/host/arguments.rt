@@ -89,7 +89,7 @@ fn push_wrong(
 }
 
 /// What the arguments of a rule lack as a whole.
-fn lack_in(kind: Kind, module: &Module) -> Option<Lack>
+pub(crate) fn lack_in(kind: Kind, module: &Module) -> Option<Lack>
     ensures { result ≡ lack_in kind (module_text «module».now) }
 {
     match module_name(&module.path) {

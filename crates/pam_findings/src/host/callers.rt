@@ -4,14 +4,15 @@ ghost use Rattle.std.specs.Prelude.{◌≡◌, map};
 ghost use Rattle.std.specs.List.{list_any};
 ghost use Rattle.std.specs.Str.{bytes_eq};
 ghost use Rattle.pam_conf.specs.ItemsOf.{module_text};
-ghost use Rattle.pam_findings.specs.host.Callers.{asks_caller, asks_caller_by, caller_is_root, is_user_service, user_services};
+ghost use Rattle.pam_findings.specs.host.Callers.{asks_caller, asks_caller_by, caller_is_root, daemon_services};
+ghost use Rattle.pam_findings.specs.host.Callers.{is_daemon_service, is_user_service, user_services};
 
 use pam_conf::{Kind, Module};
 use pam_facts::module_name;
 use pam_text::Texts;
 
-/// The services of programs that users start themselves: set-user-ID programs, and tools of root.
-static USER_SERVICES: [&[u8]; 21] = [
+/// The services of programs that users start themselves: set-user-ID programs, tools of root, and what locks a screen.
+static USER_SERVICES: [&[u8]; 34] = [
     b"su",
     b"su-l",
     b"runuser",
@@ -33,6 +34,62 @@ static USER_SERVICES: [&[u8]; 21] = [
     b"groupmod",
     b"at",
     b"crontab",
+    b"schroot",
+    b"doas",
+    b"chage",
+    b"groupmems",
+    b"newrole",
+    b"run_init",
+    b"screen",
+    b"vlock",
+    b"physlock",
+    b"xscreensaver",
+    b"i3lock",
+    b"swaylock",
+    b"kde",
+];
+
+/// The services of daemons that run as root, and ask on behalf of whoever comes.
+static DAEMON_SERVICES: [&[u8]; 39] = [
+    b"sshd",
+    b"login",
+    b"remote",
+    b"rlogin",
+    b"rsh",
+    b"gdm",
+    b"gdm-password",
+    b"gdm-autologin",
+    b"gdm-fingerprint",
+    b"gdm-smartcard",
+    b"gdm-launch-environment",
+    b"lightdm",
+    b"lightdm-autologin",
+    b"lightdm-greeter",
+    b"sddm",
+    b"sddm-autologin",
+    b"sddm-greeter",
+    b"xdm",
+    b"kdm",
+    b"lxdm",
+    b"slim",
+    b"wdm",
+    b"greetd",
+    b"ftp",
+    b"vsftpd",
+    b"proftpd",
+    b"pure-ftpd",
+    b"dovecot",
+    b"imap",
+    b"pop3",
+    b"smtp",
+    b"cron",
+    b"crond",
+    b"atd",
+    b"cockpit",
+    b"xrdp-sesman",
+    b"samba",
+    b"cups",
+    b"ppp",
 ];
 
 #[tactic(auto, unfolding(crate::specs::host::Callers::user_services))]
@@ -40,6 +97,13 @@ fn user_services() -> &'static [&'static [u8]]
     ensures { map (λ service. service.now) result.now ≡ user_services }
 {
     &USER_SERVICES
+}
+
+#[tactic(auto, unfolding(crate::specs::host::Callers::daemon_services))]
+fn daemon_services() -> &'static [&'static [u8]]
+    ensures { map (λ service. service.now) result.now ≡ daemon_services }
+{
+    &DAEMON_SERVICES
 }
 
 fn is_among(services: &[&[u8]], service: &[u8]) -> bool
@@ -52,6 +116,13 @@ fn is_user_service(service: &[u8]) -> bool
     ensures { result ≡ is_user_service service.now }
 {
     is_among(user_services(), service)
+}
+
+/// Whether a service is that of a daemon that runs as root.
+pub(crate) fn is_daemon_service(service: &[u8]) -> bool
+    ensures { result ≡ is_daemon_service service.now }
+{
+    is_among(daemon_services(), service)
 }
 
 fn has_argument(wanted: &[u8], arguments: &Texts) -> bool

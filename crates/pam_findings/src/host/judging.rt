@@ -4,11 +4,13 @@ ghost use Rattle.std.specs.Prelude.{◌≡◌, IfOk, IsFalse, IsSome, IsTrue, Li
 ghost use Rattle.pam_conf.specs.Files.{Folder};
 ghost use Rattle.pam_conf.specs.Resolution.{resolved};
 ghost use Rattle.pam_paths.specs.declared.knowledge.Known.{Known as KnownText};
+ghost use Rattle.pam_findings.specs.host.inner.Halves.{HalvesIn};
 ghost use Rattle.pam_findings.specs.host.inner.Looked.{Judges, VainIn, judgement_of};
 ghost use Rattle.pam_findings.specs.host.StackProblems.{ByVerdict, HasWayIn};
 ghost use Rattle.pam_findings.specs.host.inner.Table.{Adds};
 ghost use Rattle.pam_findings.specs.host.Verdicts.{HasOther, Judged};
 
+use crate::host::faillock::push_half;
 use crate::host::known_modules::Modules;
 use crate::host::modules::{has_other, push_asked, push_jumps, push_never_counting};
 use crate::host::problem::{Problem, Spot};
@@ -27,8 +29,27 @@ pub(crate) struct Stacked {
     pub home: Option<usize>,
 }
 
+/// What is told of a stack: the first way in, if it is one of `auth`, and whether it is known to let nobody in.
+#[derive(Drop)]
+pub(crate) struct Told {
+    pub way_in: Option<WayIn>,
+    pub lets_nobody_in: bool,
+}
+
+impl Told {
+    /// Nothing is known of the stack.
+    pub(crate) fn nothing() -> Told
+        ensures { result ≡ record { way_in = None; lets_nobody_in = false } }
+    {
+        Told {
+            way_in: None,
+            lets_nobody_in: false,
+        }
+    }
+}
+
 /// Appends a problem of the whole stack, if it has it.
-pub(crate) fn push_whole(
+fn push_whole(
     spots: &mut Vec<Spot>,
     at: Stacked,
     has: bool,
@@ -87,7 +108,25 @@ fn push_vain(
     Ok(())
 }
 
-/// Appends S1, S2, S4 and S26 of a stack.
+/// Appends S22 of a stack of `auth`.
+fn push_halves(
+    spots: &mut Vec<Spot>,
+    kind: Kind,
+    stack: &Stack,
+    soundness: &Soundness,
+) -> Result<(), AllocError>
+    ensures { (free failing : KnownText) →
+        OnOk result (Adds (HalvesIn kind (judgement_of stack.now free failing soundness.now)) spots.old.items spots.new.items) }
+{
+    if kind != Kind::Auth {
+        return Ok(());
+    }
+    push_half(spots, stack, &soundness.never_asked, false)?;
+    push_half(spots, stack, &soundness.never_asked, true)?;
+    Ok(())
+}
+
+/// Appends S1, S2, S4, S22 and S26 of a stack.
 fn push_judged(
     spots: &mut Vec<Spot>,
     at: Stacked,
@@ -120,6 +159,7 @@ fn push_judged(
     )?;
     push_jumps(spots, stack, &soundness.jumps_past_end)?;
     push_vain(spots, at.kind, stack, failing, soundness)?;
+    push_halves(spots, at.kind, stack, soundness)?;
     Ok(())
 }
 
@@ -152,7 +192,7 @@ pub(crate) fn judge(
     modules: &Modules<'_, '_>,
     at: Stacked,
     stack: Stack,
-) -> Result<Option<WayIn>, AllocError>
+) -> Result<Told, AllocError>
     ensures { (folder : Folder) (name : List ℕ) → resolved folder name at.kind ≡ Ok stack →
         IfOk result (Judges folder modules.now name at stack spots.old.items spots.new.items asked.old.items asked.new.items) }
 {
@@ -162,7 +202,11 @@ pub(crate) fn judge(
         Ok(soundness) => {
             push_judged(spots, at, &stack, &failing, &soundness)?;
             push_asked(asked, &stack, &soundness.never_asked)?;
-            way_into(alloc, at.kind, stack, &failing, &soundness)
+            let way_in = way_into(alloc, at.kind, stack, &failing, &soundness)?;
+            Ok(Told {
+                way_in,
+                lets_nobody_in: soundness.lets_nobody_in,
+            })
         }
         Err(GraphError::Memory) => Err(AllocError),
         Err(GraphError::TooManyNodes) => {
@@ -172,7 +216,7 @@ pub(crate) fn judge(
             };
             push_whole(spots, at, true, problem)?;
             push_asked(asked, &stack, &[])?;
-            Ok(None)
+            Ok(Told::nothing())
         }
     }
 }

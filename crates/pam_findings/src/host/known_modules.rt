@@ -1,18 +1,21 @@
 //! What is known of the modules of a host.
 
-ghost use Rattle.std.specs.Prelude.{◌≡◌, IsFalse, IsTrue};
+ghost use Rattle.std.specs.Prelude.{◌≡◌, ℕ, List, IsFalse, IsTrue};
 ghost use Rattle.std.specs.Option.{option_map};
 ghost use Rattle.pam_conf.specs.ItemsOf.{module_text};
-ghost use Rattle.pam_facts.specs.Facts.{unknown};
+ghost use Rattle.pam_conf.specs.Stack.{module_count};
+ghost use Rattle.pam_facts.specs.Answers.{Allows};
+ghost use Rattle.pam_facts.specs.Missing.{where_there};
+ghost use Rattle.pam_findings.specs.host.Failing.{with_failures};
 ghost use Rattle.pam_findings.specs.host.UnknownModules.{IsUnknown};
 ghost use Rattle.pam_findings.specs.host.Verdicts.{IsFailing, IsFree, has_no_function, is_missing};
 
 use crate::host::arguments::known_of;
+use crate::host::failing::set_failing;
 use pam_arguments::Arguments;
-use pam_conf::{Kind, Module, Stack};
-use pam_facts::{Fact, Facts, is_there};
+use pam_conf::{Kind, Module, NameList, Stack};
+use pam_facts::{Facts, is_there, set_missing};
 use pam_paths::Known;
-use pam_text::Texts;
 use std::marker::Model;
 
 /// Facts of modules, the table of their arguments, and the paths at which one is there, as rules write them; `None` if that is not known.
@@ -20,15 +23,7 @@ use std::marker::Model;
 pub(crate) struct Modules<'x, 'f> {
     facts: &'x Facts<'f>,
     arguments: &'x Arguments,
-    there: Option<&'x Texts>,
-}
-
-/// Whether a fact is that of a module of which nothing is known.
-fn says_nothing(fact: Fact) -> bool
-    ensures yes { IsTrue result → fact ≡ unknown }
-    ensures no { IsFalse result → fact ≡ unknown → ⊥ }
-{
-    fact == Fact::unknown()
+    there: Option<&'x NameList>,
 }
 
 impl<'x, 'f> Model for Modules<'x, 'f> {
@@ -44,7 +39,7 @@ impl<'x, 'f> Modules<'x, 'f> {
     pub(crate) fn new(
         facts: &'x Facts<'f>,
         arguments: &'x Arguments,
-        there: Option<&'x Texts>,
+        there: Option<&'x NameList>,
     ) -> Modules<'x, 'f>
         ensures { result ≡ record { facts = facts.now; there = option_map (λ t. t.now) there.entry } }
     {
@@ -84,7 +79,7 @@ impl<'x, 'f> Modules<'x, 'f> {
     {
         kind == Kind::Auth
             && !self.is_missing(module)
-            && says_nothing(self.facts.of(&module.path, &module.arguments))
+            && !self.facts.has_row(&module.path, &module.arguments)
             && known_of(self.arguments, module).is_none()
     }
 
@@ -92,13 +87,26 @@ impl<'x, 'f> Modules<'x, 'f> {
     pub(crate) fn answers(&self, stack: &Stack, kind: Kind) -> Known
         ensures { IsFree self.now kind stack.now result }
     {
-        self.facts.answers(stack, kind, self.there)
+        let mut known = self.facts.answers(stack, kind, None);
+        self.restrict(stack, kind, &mut known);
+        known
     }
 
     /// The same, where each module that checks who logs in fails.
     pub(crate) fn answers_if_checks_fail(&self, stack: &Stack, kind: Kind) -> Known
         ensures { IsFailing self.now kind stack.now result }
     {
-        self.facts.answers_if_checks_fail(stack, kind, self.there)
+        let mut known = self.facts.answers_if_checks_fail(stack, kind, None);
+        self.restrict(stack, kind, &mut known);
+        known
+    }
+
+    /// Leaves modules the codes that they have by their arguments, and where they are not there.
+    fn restrict(&self, stack: &Stack, kind: Kind, known: &mut Known)
+        ensures { (codes : ℕ → List ℕ) → Allows (module_count stack.now) known.old codes
+            → Allows (module_count stack.now) known.new (where_there self.now.there stack.now (with_failures kind stack.now codes)) }
+    {
+        set_failing(self.arguments, kind, stack, known);
+        set_missing(self.there, stack, known);
     }
 }

@@ -60,9 +60,13 @@ impl Problem {
             } => Level::Error,
             Problem::NeverAsked
             | Problem::NoOther
-            | Problem::OtherAnswers { .. }
+            | Problem::OtherAnswers {
+                has_no_rule: false,
+                lets_nobody_in: false,
+                ..
+            }
             | Problem::LeftOver
-            | Problem::CallerIsRoot
+            | Problem::CallerIsRoot { is_daemon: false }
             | Problem::UnknownModule
             | Problem::NoModule { is_dashed: true } => Level::Note,
             Problem::IncludedFromVendor {
@@ -76,8 +80,11 @@ impl Problem {
             | Problem::JumpIntoInclude
             | Problem::SuccessNeverCounts
             | Problem::NoModule { is_dashed: false }
+            | Problem::CallerIsRoot { is_daemon: true }
             | Problem::UnreachableName
             | Problem::TooLarge { .. }
+            | Problem::OtherAnswers { .. }
+            | Problem::NotCounted { .. }
             | Problem::NoFunction => Level::Warning,
         }
     }

@@ -14,7 +14,7 @@ ghost use Rattle.pam_findings.specs.host.inner.Table.{Adds};
 ghost use Rattle.pam_findings.specs.host.Verdicts.{HasOther, SaysWhoLogsIn, is_other};
 
 use crate::host::arguments::push_arguments;
-use crate::host::callers::caller_is_root;
+use crate::host::callers::{caller_is_root, is_daemon_service};
 use crate::host::known_modules::Modules;
 use crate::host::problem::{Problem, Spot};
 use crate::host::separators::lacks_separator;
@@ -36,7 +36,7 @@ pub(crate) fn spot_of(module: &Module, problem: Problem) -> Spot
 }
 
 /// Appends a problem of the module with this number.
-fn push_module(
+pub(crate) fn push_module(
     spots: &mut Vec<Spot>,
     stack: &Stack,
     number: usize,
@@ -84,7 +84,13 @@ fn push_of_rule(
     let lacks_function = modules.lacks_function(module, kind);
     push_if(spots, module, lacks_function, Problem::NoFunction)?;
     let caller_is_root = caller_is_root(kind, service, module);
-    push_if(spots, module, caller_is_root, Problem::CallerIsRoot)?;
+    let is_daemon = is_daemon_service(service);
+    push_if(
+        spots,
+        module,
+        caller_is_root,
+        Problem::CallerIsRoot { is_daemon },
+    )?;
     let lacks_separator = lacks_separator(module);
     push_if(spots, module, lacks_separator, Problem::EmptySeparator)?;
     push_arguments(spots, modules.arguments(), kind, module)?;
@@ -169,7 +175,7 @@ pub(crate) fn push_never_counting(
 }
 
 /// Whether a number is one of these.
-fn is_listed(number: usize, numbers: &[usize]) -> bool
+pub(crate) fn is_listed(number: usize, numbers: &[usize]) -> bool
     ensures { result ≡ list_any (λ listed. listed == number) numbers.now }
 {
     numbers.contains(&number)

@@ -1,8 +1,8 @@
 //! What can be wrong with a host, and where.
 
 ghost use Rattle.std.specs.Prelude.{◌≡◌, ◌≤◌};
-ghost use Rattle.pam_findings.specs.host.Problems.{kind_of, number_of_kind, number_of_lack, number_of_reaction, place_of, rank_of, rank_of_argument};
-ghost use Rattle.pam_findings.specs.host.Problems.{rank_of_control, rank_of_fault, reaction_of, service_of};
+ghost use Rattle.pam_findings.specs.host.Problems.{kind_of, number_of_answer, number_of_kind, number_of_lack, number_of_reaction, place_of, rank_of};
+ghost use Rattle.pam_findings.specs.host.Problems.{rank_of_argument, rank_of_control, rank_of_fault, reaction_of, service_of};
 
 use pam_arguments::{Lack, Reaction};
 use pam_codes::ControlError;
@@ -64,18 +64,22 @@ pub enum Problem {
     NoOther,
     /// S7: the name of a file has a capital letter, but services are looked up in lowercase, and no rule includes the file.
     UnreachableName,
-    /// S9: the graph of a stack has more nodes than the limit, so S1 to S4 and S26 are not known for it.
+    /// S9: the graph of a stack has more nodes than the limit, so S1 to S4, S22 and S26 are not known for it.
     TooLarge {
         /// The position of the service in `HostReport::services`.
         service: usize,
         kind: Kind,
     },
-    /// S10: `other` answers for one of auth and account, though the service has rules for the other one.
+    /// S10: `other` answers for one of auth and account, though the service has rules for the other one, or has a file without a rule.
     OtherAnswers {
         /// The position of the service in `HostReport::services`.
         service: usize,
         /// The kind for which `other` answers.
         kind: Kind,
+        /// Whether the file of the service has no rule at all.
+        has_no_rule: bool,
+        /// Whether `other` is known to let nobody in.
+        lets_nobody_in: bool,
     },
     /// S11: the name of a file is that of a copy which an editor or a package left.
     LeftOver,
@@ -84,7 +88,10 @@ pub enum Problem {
     /// S13: a module has no function in the kind of its rule.
     NoFunction,
     /// S14: a module of an `auth` stack looks at the user of the calling process, which is always root in this service.
-    CallerIsRoot,
+    CallerIsRoot {
+        /// Whether the service is that of a daemon, which asks on behalf of whoever comes.
+        is_daemon: bool,
+    },
     /// S15 to S18, S23: an argument is not one that the module takes, or not one to be written.
     Argument {
         /// The position of the argument in the rule, from 0.
@@ -93,6 +100,11 @@ pub enum Problem {
     },
     /// S19: the arguments lack something as a whole, so the module cannot do what it is for.
     BadArguments(Lack),
+    /// S22: a rule of pam_faillock counts failures, or refuses who failed too often, and no run asks one that does the other.
+    NotCounted {
+        /// Whether the rule counts failures.
+        counts: bool,
+    },
     /// S25: nothing is known of a module of an `auth` stack, so it is taken for one that checks who logs in.
     UnknownModule,
     /// S26: the success of a module that says who logs in never makes an `auth` stack succeed, though others let somebody in.
@@ -120,8 +132,9 @@ pub struct Place {
     pub rank: u8,
     /// The service of a problem that names one, and the position of an argument; else 0.
     pub service: usize,
-    /// The number of the kind of a problem that names one; 1 for L10 of an `@include` and for S5 of a dashed rule; for S15 the number
-    /// of what the module does, and for S19 of what is lacking; else 0.
+    /// The number of the kind of a problem that names one, which for S10 also tells why and how `other` answers; 1 for L10 of an
+    /// `@include`, for S5 of a dashed rule, for S14 of a daemon and for S22 of a rule that counts; for S15 the number of what the module
+    /// does, and for S19 of what is lacking; else 0.
     pub kind: u8,
 }
 
@@ -162,7 +175,8 @@ fn rank_of_fault(fault: FaultKind) -> u8
 }
 
 fn number_of_kind(kind: Kind) -> u8
-    ensures { result ≡ number_of_kind kind }
+    ensures value { result ≡ number_of_kind kind }
+    ensures bound { result ≤ 3 }
 {
     match kind {
         Kind::Auth => 0,
@@ -170,6 +184,15 @@ fn number_of_kind(kind: Kind) -> u8
         Kind::Password => 2,
         Kind::Session => 3,
     }
+}
+
+/// The number of a kind for which `other` answers, of why it does, and of whether it lets nobody in.
+fn number_of_answer(kind: Kind, has_no_rule: bool, lets_nobody_in: bool) -> u8
+    ensures { result ≡ number_of_answer kind has_no_rule lets_nobody_in }
+{
+    let reason = if has_no_rule { 2 } else { 0 };
+    let outcome = if lets_nobody_in { 1 } else { 0 };
+    4 * number_of_kind(kind) + reason + outcome
 }
 
 fn number_of_reaction(reaction: Reaction) -> u8
@@ -242,9 +265,10 @@ impl Problem {
             Problem::LeftOver => 71,
             Problem::JumpIntoInclude => 72,
             Problem::NoFunction => 73,
-            Problem::CallerIsRoot => 74,
+            Problem::CallerIsRoot { .. } => 74,
             Problem::Argument { wrong, .. } => rank_of_argument(wrong),
             Problem::BadArguments(_) => 79,
+            Problem::NotCounted { .. } => 82,
             Problem::UnknownModule => 85,
             Problem::SuccessNeverCounts => 86,
         }
@@ -256,14 +280,22 @@ impl Problem {
         ensures kind { result.1 ≡ kind_of self }
     {
         match self {
-            Problem::LetsNobodyIn { service, kind }
-            | Problem::TooLarge { service, kind }
-            | Problem::OtherAnswers { service, kind } => (service, number_of_kind(kind)),
+            Problem::LetsNobodyIn { service, kind } | Problem::TooLarge { service, kind } => {
+                (service, number_of_kind(kind))
+            }
+            Problem::OtherAnswers {
+                service,
+                kind,
+                has_no_rule,
+                lets_nobody_in,
+            } => (service, number_of_answer(kind, has_no_rule, lets_nobody_in)),
             Problem::LetsAnybodyIn { service } => (service, 0),
             Problem::IncludedFromVendor { is_at_include } => (0, u8::from(is_at_include)),
             Problem::NoModule { is_dashed } => (0, u8::from(is_dashed)),
+            Problem::CallerIsRoot { is_daemon } => (0, u8::from(is_daemon)),
             Problem::Argument { argument, wrong } => (argument, reaction_of(wrong)),
             Problem::BadArguments(lack) => (0, number_of_lack(lack)),
+            Problem::NotCounted { counts } => (0, u8::from(counts)),
             Problem::Fault(_)
             | Problem::Walk(_)
             | Problem::Released(_)
@@ -275,7 +307,6 @@ impl Problem {
             | Problem::LeftOver
             | Problem::JumpIntoInclude
             | Problem::NoFunction
-            | Problem::CallerIsRoot
             | Problem::UnknownModule
             | Problem::SuccessNeverCounts => (0, 0),
         }

@@ -16,7 +16,7 @@ use crate::host::stacks::{Checker, Found};
 use crate::host::table::remove_all;
 use crate::host::way_in::WayIn;
 use pam_arguments::Arguments;
-use pam_conf::{Files, RuleFiles, checked_services};
+use pam_conf::{Files, NameList, RuleFiles, checked_services};
 use pam_facts::Facts;
 use pam_text::Texts;
 use std::alloc::{AllocError, Global};
@@ -46,8 +46,7 @@ impl HostReport {
     /// In a folder each file is a service, but for those whose names have a capital letter or are left over (S11). In pam.conf
     /// each service that a rule names is one. If there is none, `other` is checked. Where it is not, the faults of its files and its
     /// walks are met by each stack of their kinds, since Linux-PAM reads them whichever service is asked for. Each file is read once. Takes time in
-    /// proportion to the files, for each rule that the stacks walk to the facts and to `there`, and for each name with a capital
-    /// letter to the rules.
+    /// proportion to the files, for each rule that the stacks walk to the facts, and for each name with a capital letter to the rules.
     ///
     /// `there` has the paths at which a module is there, as rules write them. A module that is not there (S5) answers
     /// `module_unknown` alone. With `None` that is not known, and each is taken to be there.
@@ -60,7 +59,7 @@ impl HostReport {
         vendor_start: usize,
         named: &Texts,
         facts: &Facts<'_>,
-        there: Option<&Texts>,
+        there: Option<&NameList>,
     ) -> Result<HostReport, AllocError>
         ensures services { IfOk result (λ r. r.services ≡ checked_services files.now named.now) }
         ensures report { IfOk result (λ r. IsReport files.now vendor_start named.now facts.now (option_map (λ t. t.now) there.entry)

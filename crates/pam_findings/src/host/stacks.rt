@@ -1,6 +1,6 @@
 //! What is found of a stack.
 
-ghost use Rattle.std.specs.Prelude.{◌≡◌, ◌⊎◌, ◌↔◌, ℕ, IfOk, IsTrue, List, OnOk, None, [], length, slice_get, true};
+ghost use Rattle.std.specs.Prelude.{◌≡◌, ◌⊎◌, ℕ, IfOk, List, OnOk, None, [], length, slice_get};
 ghost use Rattle.std.proofs.Common.{replicate};
 ghost use Rattle.pam_conf.specs.Laws.{IsSound};
 ghost use Rattle.pam_conf.specs.Survey.{faults_at, surveyed};
@@ -14,17 +14,17 @@ ghost use Rattle.pam_findings.specs.host.inner.Besides.{beside_text};
 ghost use Rattle.pam_findings.specs.host.inner.Checking.{AddsService, AddsStack};
 ghost use Rattle.pam_findings.specs.host.Inside.{HasJumpInside};
 ghost use Rattle.pam_findings.specs.host.inner.Looked.{Looks};
-ghost use Rattle.pam_findings.specs.host.OtherAnswers.{HasOtherAnswer, OtherAnswers, partner};
 ghost use Rattle.pam_findings.specs.host.StackProblems.{InWalk};
 
 use crate::host::beside::Beside;
 use crate::host::cut_off::with_cut_off;
 use crate::host::inside::jumps_inside;
-use crate::host::judging::{Stacked, judge, push_whole};
+use crate::host::judging::{Stacked, Told, judge};
 use crate::host::known_modules::Modules;
 use crate::host::met::Met;
 use crate::host::modules::{push_asked, push_modules};
-use crate::host::problem::{Problem, Spot};
+use crate::host::other_answers::{other_answers, push_other};
+use crate::host::problem::Spot;
 use crate::host::readers::note_read;
 use crate::host::table::{Table, put_stack_at_all};
 use crate::host::walk::push_walk;
@@ -77,33 +77,7 @@ impl Found {
     }
 }
 
-/// The other one of auth and account; `None` for the other kinds.
-fn partner(kind: Kind) -> Option<Kind>
-    ensures { result ≡ partner kind }
-{
-    match kind {
-        Kind::Auth => Some(Kind::Account),
-        Kind::Account => Some(Kind::Auth),
-        Kind::Password | Kind::Session => None,
-    }
-}
-
 impl Checker<'_, '_> {
-    /// Whether `other` answers for one of auth and account, though the service has rules for the other one.
-    fn other_answers(&self, name: &[u8], kind: Kind, survey: &Survey) -> Result<bool, AllocError>
-        ensures { survey_text survey.now ≡ surveyed self.now.rules.now name.now kind →
-            IfOk result (λ answers. (answers ≡ true) ↔ OtherAnswers self.now.rules.now name.now kind) }
-    {
-        if !survey.other_answers || survey.is_empty() || !is_sound(self.rules, survey) {
-            return Ok(false);
-        }
-        let Some(partner) = partner(kind) else {
-            return Ok(false);
-        };
-        let own = self.rules.survey(self.alloc, name, partner)?;
-        Ok(!own.other_answers && !self.rules.is_target(name))
-    }
-
     /// S12 of a stack.
     fn jumps(&self, kind: Kind, survey: &Survey) -> Result<Vec<Spot>, AllocError>
         ensures { (name : List ℕ) → survey_text survey.now ≡ surveyed self.now.rules.now name kind →
@@ -117,7 +91,7 @@ impl Checker<'_, '_> {
         }
     }
 
-    /// Adds S10 and S12 of a stack, and the faults of the walk of `other` beside it.
+    /// Adds S12 of a stack, and the faults of the walk of `other` beside it.
     fn add_beside(
         &self,
         table: &mut Table,
@@ -126,28 +100,16 @@ impl Checker<'_, '_> {
         survey: &Survey,
     ) -> Result<(), AllocError>
         requires survey { survey_text survey.now ≡ surveyed self.now.rules.now name.now at.kind }
-        requires home { at.home ≡ slice_get (survey_text survey.now).reached 0 }
-        ensures { OnOk result (Puts (λ spot. HasOtherAnswer self.now.rules.now at.service name.now at.kind spot
-            ⊎ (HasJumpInside self.now.rules.now name.now at.kind spot
-            ⊎ InWalk (beside_text self.now.beside.now at.kind).faults spot spot.problem)) (with_stack at.service at.kind) table.old table.new) }
+        ensures { OnOk result (Puts (λ spot. HasJumpInside self.now.rules.now name.now at.kind spot
+            ⊎ InWalk (beside_text self.now.beside.now at.kind).faults spot spot.problem) (with_stack at.service at.kind) table.old table.new) }
     {
-        let other_answers = self.other_answers(name, at.kind, survey)?;
         let mut spots = self.jumps(at.kind, survey)?;
-        push_whole(
-            &mut spots,
-            at,
-            other_answers,
-            Problem::OtherAnswers {
-                service: at.service,
-                kind: at.kind,
-            },
-        )?;
         push_walk(&mut spots, &self.beside.of_kind(at.kind).faults)?;
         put_stack_at_all(table, &spots, at.service, at.kind)?;
         Ok(())
     }
 
-    /// The problems of a stack itself, the rules that it may ask, and the first way in, if it is one of `auth`.
+    /// The problems of a stack itself, the rules that it may ask, and what is told of it.
     fn look(
         &self,
         spots: &mut Vec<Spot>,
@@ -155,7 +117,7 @@ impl Checker<'_, '_> {
         at: Stacked,
         name: &[u8],
         survey: Survey,
-    ) -> Result<Option<WayIn>, AllocError>
+    ) -> Result<Told, AllocError>
         requires none { spots.old.items ≡ [] }
         requires home { at.home ≡ slice_get (survey_text survey).reached 0 }
         ensures { survey_text survey ≡ surveyed self.now.rules.now name.now at.kind →
@@ -167,12 +129,12 @@ impl Checker<'_, '_> {
         push_walk(spots, &survey.faults)?;
         let Survey { stack, .. } = survey;
         let Some(stack) = stack else {
-            return Ok(None);
+            return Ok(Told::nothing());
         };
         push_modules(spots, self.modules, name, at.kind, &stack)?;
         if !is_sound {
             push_asked(asked, &stack, &[])?;
-            return Ok(None);
+            return Ok(Told::nothing());
         }
         judge(self.alloc, spots, asked, self.modules, at, stack)
     }
@@ -205,10 +167,12 @@ impl Checker<'_, '_> {
             home: survey.reached.first().copied(),
         };
         self.add_beside(&mut found.table, at, name, &survey)?;
+        let left = other_answers(self, name, kind, &survey)?;
         let mut spots = Vec::new(self.alloc);
-        let way = self.look(&mut spots, &mut found.asked, at, name, survey)?;
+        let told = self.look(&mut spots, &mut found.asked, at, name, survey)?;
+        push_other(&mut spots, at, left, told.lets_nobody_in)?;
         put_stack_at_all(&mut found.table, &spots, service, kind)?;
-        Ok(way)
+        Ok(told.way_in)
     }
 
     /// Adds what the stacks of a service meet. Returns the first way into its stack of `auth`, if there is one.

@@ -12,8 +12,7 @@ use crate::misspelled::reader::Reader;
 use crate::misspelled::right_words::{first_modules, first_names};
 use crate::misspelled::word::{Misspelled, RightNames, Wrong, misspelled_in};
 use pam_arguments::Arguments;
-use pam_conf::Files;
-use pam_text::Texts;
+use pam_conf::{Files, NameList};
 use std::alloc::{AllocError, Global};
 
 fn wrong_of(problem: Problem) -> Option<Wrong>
@@ -37,8 +36,9 @@ fn wrong_of(problem: Problem) -> Option<Wrong>
         | Problem::LeftOver
         | Problem::JumpIntoInclude
         | Problem::NoFunction
-        | Problem::CallerIsRoot
+        | Problem::CallerIsRoot { .. }
         | Problem::BadArguments(_)
+        | Problem::NotCounted { .. }
         | Problem::UnknownModule
         | Problem::SuccessNeverCounts => None,
     }
@@ -72,7 +72,7 @@ fn misspelled_at(
 fn right_names<'a>(
     alloc: Global,
     files: &'a Files,
-    there: Option<&'a Texts>,
+    there: Option<&'a NameList>,
     arguments: &'a Arguments,
 ) -> Result<RightNames<'a>, AllocError>
     ensures { IfOk result (λ right. right_view right ≡ right_names files.now (option_map (λ t. t.now) there.entry)) }
@@ -93,7 +93,7 @@ fn right_names<'a>(
 pub fn misspelled_words(
     alloc: Global,
     files: &Files,
-    there: Option<&Texts>,
+    there: Option<&NameList>,
     found: &[(Place, Finding)],
 ) -> Result<Vec<Option<Misspelled>>, AllocError>
     ensures { IfOk result (λ words. map (option_map misspelled_view) words.items

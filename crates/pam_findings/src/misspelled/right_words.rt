@@ -9,7 +9,7 @@ ghost use Rattle.pam_spelling.specs.Nearest.{nearest};
 
 use crate::misspelled::actions::nearest_action;
 use pam_codes::{CODES, Code, ControlError};
-use pam_conf::{FaultKind, Files};
+use pam_conf::{FaultKind, Files, NameList};
 use pam_facts::known::name_of_path;
 use pam_spelling::nearest;
 use pam_text::Texts;
@@ -47,11 +47,14 @@ fn first_of(alloc: Global, paths: &Texts) -> Result<Vec<&[u8]>, AllocError>
 }
 
 /// The first modules that are there.
-pub(crate) fn first_modules(alloc: Global, there: Option<&Texts>) -> Result<Vec<&[u8]>, AllocError>
+pub(crate) fn first_modules(
+    alloc: Global,
+    there: Option<&NameList>,
+) -> Result<Vec<&[u8]>, AllocError>
     ensures { IfOk result (λ modules. map (λ m. m.now) modules.items ≡ first_modules (option_map (λ t. t.now) there.entry)) }
 {
     match there {
-        Some(paths) => first_of(alloc, paths),
+        Some(paths) => first_of(alloc, paths.names()),
         None => Ok(Vec::new(alloc)),
     }
 }

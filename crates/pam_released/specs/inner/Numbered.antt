@@ -7,7 +7,7 @@ use Rattle.pam_released.specs.Numbered.{NumberedLine}
 
 -- a logical line, as the code keeps it
 abbrev pub line_view : LogicalLine → NumberedLine
-line_view line = (line.number, line.text.items)
+line_view line = record { start = line.number; text = line.text.items; is_fed = line.is_fed }
 
 -- lines, and then those of the rest of a file, if it is read
 abbrev pub with_front : List NumberedLine → Option (List NumberedLine) → Option (List NumberedLine)

@@ -1,5 +1,5 @@
 -- What `check` says of each problem: what is wrong, and how to mend it.
-use Rattle.std.specs.Prelude.{ℕ, Bool, ◌||◌, List, [], ◌++◌, codes, if◌then◌else◌, nat_eq, Option, None, Some}
+use Rattle.std.specs.Prelude.{ℕ, Bool, true, false, ◌||◌, List, [], ◌++◌, codes, if◌then◌else◌, nat_eq, Option, None, Some}
 use Rattle.std.specs.List.{ends_with}
 use Rattle.std.specs.Str.{bytes_eq}
 use Rattle.pam_arguments.specs.declared.lacks.Lack.{Lack}
@@ -78,13 +78,29 @@ no_other_sentence = codes "there is no file other, which decides for each servic
 abbrev pub unreachable_sentence : List ℕ
 unreachable_sentence = codes "services are looked up in lowercase, so no program finds this file; write its name in lowercase"
 
+-- S22: of a rule that refuses who failed too often, and of one that counts failures
+abbrev pub not_counted_sentence : List ℕ
+not_counted_sentence =
+    codes "no pam_faillock.so with authfail is ever asked, so failures are not counted, and nobody is locked out; "
+    ++ codes "put a rule with it where a failure leads"
+
+abbrev pub not_refused_sentence : List ℕ
+not_refused_sentence =
+    codes "failures are counted, but no pam_faillock.so with preauth or authsucc is ever asked, so nobody is locked out; "
+    ++ codes "put a rule with preauth before the modules that check"
+
 abbrev pub large_sentence : List ℕ
 large_sentence =
     codes " can come to more than 65,536 places, so it is not known whether it lets nobody or anybody in; "
     ++ codes "use include in place of substack where done, die and reset need not stay inside"
 
-abbrev pub other_sentence : List ℕ
-other_sentence = codes " has no rules of its own, so those of other decide; write rules for it"
+-- S10: whether the file of the service has no rule, and whether `other` lets nobody in
+abbrev pub other_sentence : Bool → Bool → List ℕ
+other_sentence false false = codes " has no rules of its own, so those of other decide; write rules for it"
+other_sentence false true = codes " has no rules of its own, so those of other decide, which let nobody in; write rules for it"
+other_sentence true false = codes " is left to the rules of other, since the file has no rule at all; write rules, or remove the file"
+other_sentence true true =
+    codes " is left to the rules of other, which let nobody in, since the file has no rule at all; write rules, or remove the file"
 
 abbrev pub left_over_sentence : List ℕ
 left_over_sentence = codes "a copy that an editor or a package left, for which no program asks; it is not checked, and may be removed"
@@ -171,13 +187,14 @@ problem_sentence (problems.NoModule is_dashed) = no_module_sentence
 problem_sentence problems.NoOther = no_other_sentence
 problem_sentence problems.UnreachableName = unreachable_sentence
 problem_sentence (problems.TooLarge service kind) = large_sentence
-problem_sentence (problems.OtherAnswers service kind) = other_sentence
+problem_sentence (problems.OtherAnswers service kind has_no_rule lets_nobody_in) = other_sentence has_no_rule lets_nobody_in
 problem_sentence problems.LeftOver = left_over_sentence
 problem_sentence problems.JumpIntoInclude = inside_sentence
 problem_sentence problems.NoFunction = no_function_sentence
-problem_sentence problems.CallerIsRoot = caller_sentence
+problem_sentence (problems.CallerIsRoot is_daemon) = caller_sentence
 problem_sentence (problems.Argument argument wrong) = argument_sentence
 problem_sentence (problems.BadArguments lack) = lack_sentence lack
+problem_sentence (problems.NotCounted counts) = if counts then not_refused_sentence else not_counted_sentence
 problem_sentence problems.UnknownModule = unknown_module_sentence
 problem_sentence problems.SuccessNeverCounts = vain_sentence
 

@@ -12,8 +12,7 @@ use Rattle.pam_report.specs.Released.{ReleasedValue}
 use Rattle.pam_words.specs.declared.wanted.ReleaseName.{ReleaseName}
 use Rattle.pam_words.specs.declared.wanted.ReleaseName.TheVariants.{LinuxPam15, LinuxPam17}
 use Rattle.pam_render.specs.text.Header.{kind_name}
-use Rattle.pam_render.specs.text.Show.{words_text}
-use Rattle.pam_render.specs.text.WordText.{word_text}
+use Rattle.pam_render.specs.text.WordText.{shown_word_text}
 
 -- the name of a release, as `--as` takes it
 abbrev pub release_text : ReleaseName → List ℕ
@@ -33,7 +32,7 @@ count_text (Some rules) = concat (codes " " ∷ decimal (length rules) ∷ codes
 -- the service of a rule of pam.conf, with a space before it
 abbrev pub service_text : Option (List ℕ) → List ℕ
 service_text None = []
-service_text (Some service) = codes " " ++ word_text service
+service_text (Some service) = codes " " ++ shown_word_text service
 
 -- the text before a kind, with the dash of a dashed rule
 abbrev pub kind_front : Bool → List ℕ
@@ -50,15 +49,19 @@ abbrev pub include_text : Option Kind → List ℕ
 include_text None = []
 include_text (Some kind) = codes " include"
 
+-- words, in which no control character is left, with a space before each
+abbrev pub shown_words : List (List ℕ) → List ℕ
+shown_words words = flat_map (λ word. codes " " ++ shown_word_text word) words
+
 -- `CONTROL PATH ARGUMENT...`, with a space before each word
 abbrev pub module_words : List Action → List ℕ → List (List ℕ) → List ℕ
-module_words control path arguments = codes " " ++ control_text control ++ (codes " " ++ word_text path) ++ words_text arguments
+module_words control path arguments = codes " " ++ control_text control ++ (codes " " ++ shown_word_text path) ++ shown_words arguments
 
 -- the words after the kind: `CONTROL PATH ARGUMENT...`, `include TARGET` or `substack TARGET`
 abbrev pub body_text : Option Kind → RuleBody → List ℕ
 body_text kind (Module control path arguments) = module_words control path arguments
-body_text kind (Include target) = include_text kind ++ (codes " " ++ word_text target)
-body_text kind (Sub target) = codes " substack" ++ (codes " " ++ word_text target)
+body_text kind (Include target) = include_text kind ++ (codes " " ++ shown_word_text target)
+body_text kind (Sub target) = codes " substack" ++ (codes " " ++ shown_word_text target)
 
 abbrev pub rule_text : LineRule → List ℕ
 rule_text rule = service_text rule.service ++ (kind_front rule.dashed ++ kind_text rule.kind) ++ body_text rule.kind rule.body

@@ -8,11 +8,11 @@ ghost use Rattle.pam_conf.specs.Rule.{body_view};
 ghost use Rattle.pam_released.specs.Readings.{failing_view, numbered_view, reading_view, rule_view};
 ghost use Rattle.pam_report.specs.ReplyViews.{released_view};
 ghost use Rattle.pam_render.specs.text.Released.{body_text, count_text, include_text, kind_front, kind_text, module_words, reading_text, release_front, release_text};
-ghost use Rattle.pam_render.specs.text.WordText.{word_text};
-ghost use Rattle.pam_render.specs.text.Released.{failing_text, released_text, rule_line, rule_lines, rule_text, service_text};
+ghost use Rattle.pam_render.specs.text.WordText.{shown_word_text};
+ghost use Rattle.pam_render.specs.text.Released.{failing_text, released_text, rule_line, rule_lines, rule_text, service_text, shown_words};
 
 use crate::text::header::put_lowercase;
-use crate::text::show::{put_one_word, put_words};
+use crate::text::word::put_shown_word;
 use pam_codes::{Control, Device, Out, Piece};
 use pam_conf::{Body, Kind};
 use pam_released::{FailingRule, LineRule, NumberedReading, Reading};
@@ -58,12 +58,30 @@ fn put_release_front<W: Write>(reply: &ReleasedReply<'_>, out: &mut Out<W>) -> R
     ])
 }
 
+/// Writes a word, with a space before it and no control character in it.
+fn put_shown<W: Write>(word: &[u8], out: &mut Out<W>) -> Result<(), Device>
+    ensures { Writes W.contents out.old out.new result (codes " " ++ shown_word_text word.now) }
+{
+    out.put(b" ")?;
+    put_shown_word(word, out)
+}
+
+/// Writes words, with a space before each.
+fn put_arguments<W: Write>(words: &Texts, out: &mut Out<W>) -> Result<(), Device>
+    ensures { Writes W.contents out.old out.new result (shown_words words.now) }
+{
+    for word in words.iter() {
+        put_shown(word, out)?;
+    }
+    Ok(())
+}
+
 /// Writes the service of a rule, if it names one.
 fn put_service<W: Write>(service: &Option<Vec<u8>>, out: &mut Out<W>) -> Result<(), Device>
     ensures { Writes W.contents out.old out.new result (service_text (option_map (λ s. s.items) service.now)) }
 {
     match service {
-        Some(service) => put_one_word(service, out),
+        Some(service) => put_shown(service, out),
         None => Ok(()),
     }
 }
@@ -111,29 +129,29 @@ fn put_module<W: Write>(
 {
     out.put(b" ")?;
     control.write_text(out)?;
-    put_one_word(path, out)?;
-    put_words(arguments, out)
+    put_shown(path, out)?;
+    put_arguments(arguments, out)
 }
 
 /// Writes a text, and a target after it.
 fn put_followed<W: Write>(word: &[u8], target: &[u8], out: &mut Out<W>) -> Result<(), Device>
-    ensures { Writes W.contents out.old out.new result (word.now ++ (codes " " ++ word_text target.now)) }
+    ensures { Writes W.contents out.old out.new result (word.now ++ (codes " " ++ shown_word_text target.now)) }
 {
     out.put(word)?;
-    put_one_word(target, out)
+    put_shown(target, out)
 }
 
 fn put_include<W: Write>(kind: Option<Kind>, target: &[u8], out: &mut Out<W>) -> Result<(), Device>
-    ensures { Writes W.contents out.old out.new result (include_text kind ++ (codes " " ++ word_text target.now)) }
+    ensures { Writes W.contents out.old out.new result (include_text kind ++ (codes " " ++ shown_word_text target.now)) }
 {
     put_followed(include_text(kind), target, out)
 }
 
 fn put_sub<W: Write>(target: &[u8], out: &mut Out<W>) -> Result<(), Device>
-    ensures { Writes W.contents out.old out.new result (codes " substack" ++ (codes " " ++ word_text target.now)) }
+    ensures { Writes W.contents out.old out.new result (codes " substack" ++ (codes " " ++ shown_word_text target.now)) }
 {
     out.put(b" substack")?;
-    put_one_word(target, out)
+    put_shown(target, out)
 }
 
 /// Writes the words after the kind.

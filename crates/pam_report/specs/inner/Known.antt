@@ -1,6 +1,10 @@
 -- For private contracts and proofs alone: a known stack that is found, or why there is none.
-use Rattle.std.specs.Prelude.{◌≡◌, ⊤, ℕ, List, Option, Result, Ok, Err, is_some, map}
+use Rattle.std.specs.Prelude.{◌≡◌, ⊤, ℕ, List, Option, Result, Ok, Err, is_some, map, option_map}
+use Rattle.std.specs.Borrow.{Bor}
+use Rattle.jiff.specs.Types.{DateTime}
 use Rattle.pam_conf.specs.Stack.{Items, module_count}
+use Rattle.pam_facts.specs.Rows.{Row}
+use Rattle.pam_facts.specs.declared.facts.Facts.{Facts}
 use Rattle.pam_facts.specs.known.Knowledge.{Agree, allows_codes}
 use Rattle.pam_facts.specs.known.Reads.{IsOfRead, TablesRead}
 use Rattle.pam_facts.specs.known.Tables.{TablesText, TimedText}
@@ -11,6 +15,8 @@ use Rattle.pam_paths.specs.declared.knowledge.Known.{Known}
 use Rattle.pam_facts.specs.settings.Settings.{setting_view}
 use Rattle.pam_report.specs.Answer.{stack_at}
 use Rattle.pam_report.specs.Fault.{known_fault}
+use Rattle.pam_report.specs.Inputs.{tables_given}
+use Rattle.pam_report.specs.declared.inputs.known_tables.Given.{Given}
 use Rattle.pam_report.specs.KnownStack.{KnownItems}
 use Rattle.pam_report.specs.Finds.{Finds, IsConfFault, IsTableFault, IsTimeFault}
 use Rattle.pam_report.specs.Memory.{WantsOnly, of_paths, paths_tables}
@@ -50,7 +56,8 @@ FindsKnown items (Err fault) told = IsFaultOf told fault
 -- the stack that is asked for, with the codes that its modules may return
 abbrev pub stack_from : Sources → StackRequest → Result KnownItems Fault
 stack_from sources asked =
-    stack_at asked.service.now asked.kind asked.login (map setting_view sources.settings.now) sources.inputs.now sources.moment sources.files.now
+    stack_at asked.service.now asked.kind asked.login sources.answers (map setting_view sources.settings.now) sources.inputs.now sources.moment
+    sources.files.now
 
 -- memory runs out only as it may where the runs of a stack are found
 abbrev pub WantsForRuns : Sources → Result Reply Fault → Type 0
@@ -71,4 +78,19 @@ IsFaultOfRead read fault = (e : KnownError) × (fault ≡ known_fault e) × IsOf
 
 -- tables with this time table
 abbrev pub with_time : TablesText → Option TimedText → TablesText
-with_time tables time = record { there = tables.there; groups = tables.groups; access = tables.access; time = time; returns = tables.returns }
+with_time tables time = record {
+  there = tables.there;
+  groups = tables.groups;
+  access = tables.access;
+  time = time;
+  returns = tables.returns;
+  facts = tables.facts;
+}
+
+-- what is known of modules, if that is asked
+abbrev pub rows_of : Option (Bor Facts) → Option (List Row)
+rows_of facts = option_map (λ f. f.now) facts
+
+-- the tables of what is given, at a moment
+abbrev pub tables_from : Given → Option DateTime → TablesText
+tables_from given moment = tables_given given.inputs.now (rows_of given.facts) moment

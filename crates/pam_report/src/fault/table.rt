@@ -51,6 +51,7 @@ pub(super) fn usage_row(usage: &Usage) -> Row
         Usage::ReleaseForm => Row::of("U16 ReleaseForm", BAD_REQUEST),
         Usage::SettingForm => Row::of("U17 SettingForm", BAD_REQUEST),
         Usage::CandidateForm => Row::of("U15 CandidateForm", BAD_REQUEST),
+        Usage::AnswersName => Row::of("U20 AnswersName", BAD_REQUEST),
     }
 }
 

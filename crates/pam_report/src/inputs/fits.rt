@@ -45,13 +45,15 @@ impl Inputs {
         }
     }
 
-    /// Whether these are a configuration, and the contents of exactly the returns file and of each table that are named.
+    /// Whether these are a configuration, and the contents of exactly the facts file and the returns file, and of each table that are
+    /// named.
     fn fits_knowledge(&self, named: &KnowledgeSource<'_>) -> bool
         ensures { result ≡ fits_knowledge named.now self.now }
     {
         match self {
             Inputs::Paths { given, .. } => {
-                given.returns.is_some() == named.returns.is_some()
+                given.facts.is_some() == named.answers.facts_file().is_some()
+                    && given.returns.is_some() == named.returns.is_some()
                     && has_named_tables(named.tables, &given.tables)
             }
             _ => false,

@@ -5,7 +5,7 @@ ghost use Rattle.std.specs.Option.{option_map_or};
 
 use crate::inputs::{Inputs, SideInputs, TableFile};
 use crate::tables::TablePaths;
-use pam_conf::Files;
+use pam_conf::{Files, NameList};
 use pam_findings::tables::HostTables;
 use pam_text::Texts;
 
@@ -34,7 +34,7 @@ impl Inputs {
     }
 
     /// Returns the paths at which a module is there, if that is known.
-    pub(crate) fn there(&self) -> Option<&Texts>
+    pub(crate) fn there(&self) -> Option<&NameList>
         ensures { option_map (λ t. t.now) result ≡ there_given self.now }
     {
         match self {
@@ -61,6 +61,7 @@ impl Inputs {
         match self {
             Inputs::Host { given, .. } => slice_given(&given.facts).unwrap_or(b""),
             Inputs::Sides { facts, .. } => slice_given(facts).unwrap_or(b""),
+            Inputs::Paths { given, .. } => slice_given(&given.facts).unwrap_or(b""),
             _ => b"",
         }
     }

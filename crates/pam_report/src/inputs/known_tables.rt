@@ -3,12 +3,20 @@
 ghost use Rattle.std.specs.Prelude.{◌≡◌, None, option_map};
 ghost use Rattle.pam_facts.specs.known.Tables.{tables_view, timed_view};
 ghost use Rattle.pam_report.specs.Inputs.{tables_given as tables_in, timed as timed_text};
-ghost use Rattle.pam_report.specs.inner.Known.{with_time};
+ghost use Rattle.pam_report.specs.inner.Known.{tables_from, with_time};
 
 use crate::inputs::given::{slice_given, table_bytes};
 use crate::inputs::{Inputs, TableFile};
 use jiff::civil::DateTime;
+use pam_facts::Facts;
 use pam_facts::known::{Tables, TimedTable};
+
+/// What the codes of modules are found from: the inputs, and what is known of modules, if that is asked.
+#[derive(Clone, Copy)]
+pub(crate) struct Given<'x> {
+    pub(crate) inputs: &'x Inputs,
+    pub(crate) facts: Option<&'x Facts<'x>>,
+}
 
 /// Returns a time table with the moment. Without a moment there is no time table.
 fn timed(table: &Option<TableFile>, moment: Option<DateTime>) -> Option<TimedTable<'_>>
@@ -26,7 +34,7 @@ fn timed(table: &Option<TableFile>, moment: Option<DateTime>) -> Option<TimedTab
 
 /// Returns the time table of the commands about paths with a moment, if both are given.
 pub(crate) fn timed_given(inputs: &Inputs, moment: Option<DateTime>) -> Option<TimedTable<'_>>
-    ensures { option_map timed_view result ≡ (tables_in inputs.now moment).time }
+    ensures { option_map timed_view result ≡ (tables_in inputs.now None moment).time }
 {
     match inputs {
         Inputs::Paths { given, .. } => timed(&given.tables.time, moment),
@@ -46,17 +54,20 @@ fn copied<'a>(time: &Option<TimedTable<'a>>) -> Option<TimedTable<'a>>
     }
 }
 
-/// Returns the tables of the commands about paths, with this time table, and which modules are there: what gives the codes of modules.
-pub(crate) fn tables_with<'a>(inputs: &'a Inputs, time: &Option<TimedTable<'a>>) -> Tables<'a>
-    ensures { tables_view result ≡ with_time (tables_in inputs.now None) (option_map timed_view time.now) }
+/// Returns the tables of the commands about paths, with this time table, which modules are there, and what is known of them: what gives
+/// the codes of modules.
+pub(crate) fn tables_with<'a>(given: Given<'a>, time: &Option<TimedTable<'a>>) -> Tables<'a>
+    ensures { tables_view result ≡ with_time (tables_from given.entry None) (option_map timed_view time.now) }
 {
-    match inputs {
+    let facts = given.facts;
+    match given.inputs {
         Inputs::Paths { given, .. } => Tables {
             there: given.there.as_ref(),
             groups: table_bytes(&given.tables.groups),
             access: table_bytes(&given.tables.access),
             time: copied(time),
             returns: slice_given(&given.returns),
+            facts,
         },
         _ => Tables {
             there: None,
@@ -64,6 +75,7 @@ pub(crate) fn tables_with<'a>(inputs: &'a Inputs, time: &Option<TimedTable<'a>>)
             access: None,
             time: copied(time),
             returns: None,
+            facts,
         },
     }
 }

@@ -6,25 +6,24 @@ ghost use Rattle.pam_report.specs.Answer.{login_at};
 ghost use Rattle.pam_facts.specs.known.Knowledge.{knowledge};
 ghost use Rattle.pam_facts.specs.known.Reads.{tables_read};
 ghost use Rattle.pam_facts.specs.known.Tables.{tables_view, timed_view};
-ghost use Rattle.pam_report.specs.Inputs.{tables_given as tables_in};
-ghost use Rattle.pam_report.specs.inner.Known.{FindsKnown, FindsStack, IsFaultOfRead, stack_from, with_time};
-ghost use Rattle.pam_report.specs.KnownStack.{known_at as stack_at, known_items, known_stack as stack_known, known_then as stack_then};
+ghost use Rattle.pam_report.specs.inner.Known.{FindsKnown, FindsStack, IsFaultOfRead, rows_of, stack_from, tables_from, with_time};
+ghost use Rattle.pam_report.specs.KnownStack.{facts_asked, known_at as stack_at, known_items, known_stack as stack_known, known_then as stack_then, with_facts};
 ghost use Rattle.pam_report.specs.Memory.{IsWanting, of_paths, paths_tables};
 ghost use Rattle.pam_tables.specs.Login.{login_view};
 
 use super::login::{login_to, lowered};
 use super::settings::with_settings;
-use crate::fault::{Fault, known_fault};
-use crate::inputs::{Inputs, tables_with, timed_given};
+use crate::fault::{Fault, facts_fault, known_fault};
+use crate::inputs::{Given, Inputs, tables_with, timed_given};
 use jiff::civil::DateTime;
-use pam_conf::{Files, Kind, Stack, resolve};
+use pam_conf::{Files, Kind, NameList, Stack, resolve};
+use pam_facts::Facts;
 use pam_facts::known::{Tables, TimedTable, known_answers};
 use pam_facts::settings::Setting;
 use pam_paths::Known;
 use pam_tables::Login as TableLogin;
 use pam_tables::times::MomentError;
-use pam_text::Texts;
-use pam_words::Login;
+use pam_words::{Answers, Login};
 use std::alloc::Global;
 
 /// A stack that is asked for, and the login that its modules decide on.
@@ -35,12 +34,14 @@ pub(super) struct StackRequest<'a> {
     pub login: Login<'a>,
 }
 
-/// What the runs of a stack are found from: the files, the tables, the codes that are set, and the moment, if one is given.
+/// What the runs of a stack are found from: the files, the tables, what is asked of facts, the codes that are set, and the moment, if one
+/// is given.
 #[derive(Clone, Copy)]
 pub(super) struct Sources<'x, 's> {
     pub alloc: Global,
     pub files: &'x Files,
     pub inputs: &'x Inputs,
+    pub answers: Answers<'s>,
     pub settings: &'x [Setting<'s>],
     pub moment: Option<Result<DateTime, MomentError>>,
 }
@@ -74,18 +75,18 @@ fn known_with(
     alloc: Global,
     kind: Kind,
     login: &TableLogin<'_>,
-    inputs: &Inputs,
+    given: Given<'_>,
     stack: &Stack,
     time: &Option<TimedTable<'_>>,
 ) -> Result<Known, Fault>
-    ensures known { let tables = with_time (tables_in inputs.now None) (option_map timed_view time.now) in
+    ensures known { let tables = with_time (tables_from given.entry None) (option_map timed_view time.now) in
         FindsKnown stack.now result (known_items stack.now (knowledge kind (login_view login.now) tables stack.now)) }
-    ensures read { let tables = with_time (tables_in inputs.now None) (option_map timed_view time.now) in
+    ensures read { let tables = with_time (tables_from given.entry None) (option_map timed_view time.now) in
         IfErr result (IsFaultOfRead (tables_read kind tables stack.now)) }
 {
-    let tables = tables_with(inputs, time);
+    let tables = tables_with(given, time);
     // Its type is named here, since the proof of what is lent has to find it.
-    let _there: Option<&Texts> = tables.there;
+    let _there: Option<&NameList> = tables.there;
     known_by(alloc, kind, login, stack, &tables)
 }
 
@@ -94,20 +95,20 @@ fn known_at(
     alloc: Global,
     kind: Kind,
     login: &TableLogin<'_>,
-    inputs: &Inputs,
+    given: Given<'_>,
     stack: &Stack,
     moment: Option<DateTime>,
 ) -> Result<Known, Fault>
-    ensures known { FindsKnown stack.now result (stack_at kind (login_view login.now) inputs.now stack.now moment) }
-    ensures wants { IfErr result (IsWanting (of_paths (paths_tables (is_some moment) inputs.now))) }
+    ensures known { FindsKnown stack.now result (stack_at kind (login_view login.now) given.entry.inputs.now (rows_of given.entry.facts) stack.now moment) }
+    ensures wants { IfErr result (IsWanting (of_paths (paths_tables (is_some moment) given.entry.inputs.now))) }
 {
     known_with(
         alloc,
         kind,
         login,
-        inputs,
+        given,
         stack,
-        &timed_given(inputs, moment),
+        &timed_given(given.inputs, moment),
     )
 }
 
@@ -116,16 +117,16 @@ fn known_then(
     alloc: Global,
     kind: Kind,
     login: &TableLogin<'_>,
-    inputs: &Inputs,
+    given: Given<'_>,
     stack: &Stack,
     moment: Option<Result<DateTime, MomentError>>,
 ) -> Result<Known, Fault>
-    ensures known { FindsKnown stack.now result (stack_then kind (login_view login.now) inputs.now stack.now moment) }
-    ensures wants { IfErr result (IsWanting (of_paths (paths_tables (is_some moment) inputs.now))) }
+    ensures known { FindsKnown stack.now result (stack_then kind (login_view login.now) given.entry.inputs.now (rows_of given.entry.facts) stack.now moment) }
+    ensures wants { IfErr result (IsWanting (of_paths (paths_tables (is_some moment) given.entry.inputs.now))) }
 {
     match moment {
-        None => known_at(alloc, kind, login, inputs, stack, None),
-        Some(Ok(moment)) => known_at(alloc, kind, login, inputs, stack, Some(moment)),
+        None => known_at(alloc, kind, login, given, stack, None),
+        Some(Ok(moment)) => known_at(alloc, kind, login, given, stack, Some(moment)),
         Some(Err(error)) => Err(Fault::Moment(error)),
     }
 }
@@ -135,30 +136,31 @@ fn known_to(
     alloc: Global,
     request: &StackRequest<'_>,
     moment: Option<Result<DateTime, MomentError>>,
-    inputs: &Inputs,
+    given: Given<'_>,
     stack: &Stack,
 ) -> Result<Known, Fault>
-    ensures known { FindsKnown stack.now result
-        (stack_then request.now.kind (login_at request.now.service.now request.now.login) inputs.now stack.now moment) }
-    ensures wants { IfErr result (IsWanting (of_paths (paths_tables (is_some moment) inputs.now))) }
+    ensures known { let login = login_at request.now.service.now request.now.login in FindsKnown stack.now result
+        (stack_then request.now.kind login given.entry.inputs.now (rows_of given.entry.facts) stack.now moment) }
+    ensures wants { IfErr result (IsWanting (of_paths (paths_tables (is_some moment) given.entry.inputs.now))) }
 {
     match lowered(alloc, request.service) {
         Ok(service) => {
             let login = login_to(&service, request.login);
-            known_then(alloc, request.kind, &login, inputs, stack, moment)
+            known_then(alloc, request.kind, &login, given, stack, moment)
         }
         Err(_) => Err(Fault::Memory),
     }
 }
 
-/// Returns the stack, and the codes that its modules may return by tables and the returns file, or the first fault: of the
+/// Returns the stack, and the codes that its modules may return by tables, the returns file and these facts, or the first fault: of the
 /// configuration, then of the moment, then of the tables.
 fn stack_by_tables(
     sources: &Sources<'_, '_>,
     request: &StackRequest<'_>,
+    facts: Option<&Facts<'_>>,
 ) -> Result<KnownStack, Fault>
     ensures stack { FindsStack result (stack_known request.now.kind (login_at request.now.service.now request.now.login) sources.now.inputs.now
-        sources.now.moment (resolved sources.now.files.now request.now.service.now request.now.kind)) }
+        (rows_of facts.entry) sources.now.moment (resolved sources.now.files.now request.now.service.now request.now.kind)) }
     ensures wants { IfErr result (IsWanting (of_paths (paths_tables (is_some sources.now.moment) sources.now.inputs.now))) }
 {
     let alloc = sources.alloc;
@@ -171,14 +173,39 @@ fn stack_by_tables(
         Ok(stack) => stack,
         Err(error) => return Err(Fault::Conf(error)),
     };
-    match known_to(alloc, request, sources.moment, sources.inputs, &stack) {
+    let given = Given {
+        inputs: sources.inputs,
+        facts,
+    };
+    match known_to(alloc, request, sources.moment, given, &stack) {
         Ok(known) => Ok(KnownStack { stack, known }),
         Err(fault) => Err(fault),
     }
 }
 
-/// Returns the stack, and the codes that its modules may return, or the first fault: of the configuration, then of the moment, then of
-/// the tables, then that a key of a setting names no module.
+/// Like `stack_by_tables`, with the facts that are asked. A fault of the facts file comes first.
+fn stack_by_facts(
+    sources: &Sources<'_, '_>,
+    request: &StackRequest<'_>,
+) -> Result<KnownStack, Fault>
+    ensures stack { FindsStack result (with_facts (facts_asked sources.now.answers sources.now.inputs.now) (λ facts.
+        stack_known request.now.kind (login_at request.now.service.now request.now.login) sources.now.inputs.now
+        facts sources.now.moment (resolved sources.now.files.now request.now.service.now request.now.kind))) }
+    ensures wants { IfErr result (IsWanting (of_paths (paths_tables (is_some sources.now.moment) sources.now.inputs.now))) }
+{
+    match sources.answers {
+        Answers::Any => stack_by_tables(sources, request, None),
+        Answers::Possible { .. } => {
+            match Facts::read(sources.alloc, sources.inputs.facts_file()) {
+                Ok(facts) => stack_by_tables(sources, request, Some(&facts)),
+                Err(error) => Err(facts_fault(error)),
+            }
+        }
+    }
+}
+
+/// Returns the stack, and the codes that its modules may return, or the first fault: of the facts file, then of the configuration, then
+/// of the moment, then of the tables, then that a key of a setting names no module.
 pub(super) fn known_stack(
     sources: &Sources<'_, '_>,
     request: &StackRequest<'_>,
@@ -186,7 +213,7 @@ pub(super) fn known_stack(
     ensures stack { FindsStack result (stack_from sources.now request.now) }
     ensures wants { IfErr result (IsWanting (of_paths (paths_tables (is_some sources.now.moment) sources.now.inputs.now))) }
 {
-    match stack_by_tables(sources, request) {
+    match stack_by_facts(sources, request) {
         Ok(found) => {
             with_settings(
                 sources.files,

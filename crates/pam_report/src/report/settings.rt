@@ -17,12 +17,11 @@ ghost use Rattle.pam_facts.specs.settings.Settings.{setting_view};
 use super::known_stack::KnownStack;
 use crate::fault::Fault;
 use pam_codes::CodeSet;
-use pam_conf::{Files, Module, Stack};
+use pam_conf::{Files, Module, NameList, Stack};
 use pam_facts::known::name_of_path;
 use pam_facts::settings::Setting;
 use pam_facts::{replace_codes, set_missing};
 use pam_paths::Known;
-use pam_text::Texts;
 
 /// Whether a text is a number in decimal, without leading zeros.
 fn is_number(text: &[u8], number: usize) -> bool
@@ -148,7 +147,7 @@ fn all_name_one(files: &Files, stack: &Stack, settings: &[Setting<'_>]) -> bool
 /// Returns the stack with what is set for its modules, or that a key names none of them.
 pub(super) fn with_settings(
     files: &Files,
-    there: Option<&Texts>,
+    there: Option<&NameList>,
     settings: &[Setting<'_>],
     found: KnownStack,
 ) -> Result<KnownStack, Fault>

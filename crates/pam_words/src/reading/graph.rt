@@ -6,7 +6,7 @@ ghost use Rattle.pam_words.specs.Request.{graph_task};
 ghost use Rattle.pam_words.specs.Values.{format_named as format_of_name, format_of};
 ghost use Rattle.pam_words.specs.inner.Wanted.{GivesTask};
 
-use crate::reading::knowledge::knowledge;
+use crate::reading::knowledge::possible_knowledge;
 use crate::reading::{stack, value};
 use crate::wanted::{GraphFormat, Task, Usage};
 use clap::ArgMatches;
@@ -43,7 +43,7 @@ pub(crate) fn graph<'a>(alloc: Global, matches: &ArgMatches<'a>) -> Result<Task<
     let Some(format) = format(matches) else {
         return Err(Usage::FormatName);
     };
-    let knowledge = knowledge(alloc, matches)?;
+    let knowledge = possible_knowledge(alloc, matches)?;
     Ok(Task::Graph {
         source,
         kind,

@@ -3,16 +3,16 @@
 ghost use Rattle.std.specs.Prelude.{◌≡◌, IfOk, codes, map, option_map};
 ghost use Rattle.std.specs.Option.{option_copied};
 ghost use Rattle.clap.specs.Words.{first_of, found_of, rows_of};
-ghost use Rattle.pam_words.specs.Request.{knowledge_of};
+ghost use Rattle.pam_words.specs.Request.{knowledge_of, possible_knowledge_of};
 ghost use Rattle.pam_words.specs.Values.{has as has_value, lacks_user as lacks_user_in, texts_of};
 ghost use Rattle.pam_words.specs.Request.{moment_if_needed as moment_if_needed_in, outcomes_task};
-ghost use Rattle.pam_words.specs.Values.{needs_moment as needs_moment_in};
-ghost use Rattle.pam_words.specs.Wanted.{Gives, knowledge_view, moment_view};
+ghost use Rattle.pam_words.specs.Values.{answers_named as answers_of_name, answers_of, needs_moment as needs_moment_in};
+ghost use Rattle.pam_words.specs.Wanted.{Gives, answers_view, knowledge_view, moment_view};
 ghost use Rattle.pam_words.specs.inner.Wanted.{GivesTask};
 
 use crate::reading::settings::settings;
 use crate::reading::{login, moment, stack, value, values};
-use crate::wanted::{KnowledgeSource, Moment, TableNames, Task, Usage};
+use crate::wanted::{Answers, KnowledgeSource, Moment, TableNames, Task, Usage};
 use clap::ArgMatches;
 use std::alloc::{AllocError, Global};
 
@@ -75,12 +75,36 @@ pub(crate) fn tables<'a>(matches: &ArgMatches<'a>) -> TableNames<'a>
     }
 }
 
+fn answers_named<'a>(facts: Option<&'a str>, name: &str) -> Option<Answers<'a>>
+    ensures { option_map answers_view result ≡ answers_of_name (option_copied facts.entry) name.now }
+{
+    if name == "any" {
+        Some(Answers::Any)
+    } else if name == "possible" {
+        Some(Answers::Possible { facts })
+    } else {
+        None
+    }
+}
+
+/// Returns what modules may return of which nothing else tells, or `None` if the name that is given is not one of answers.
+fn answers<'a>(matches: &ArgMatches<'a>) -> Option<Answers<'a>>
+    ensures { option_map answers_view result ≡ answers_of (rows_of (found_of matches.now)) }
+{
+    let facts = value(matches, "facts");
+    match value(matches, "answers") {
+        Some(name) => answers_named(facts, name),
+        None => Some(Answers::Possible { facts }),
+    }
+}
+
 /// Reads the codes of modules, the login and the moment, and the names of the folders of modules, of the tables and of the returns file.
 pub(crate) fn knowledge<'a>(
     alloc: Global,
     matches: &ArgMatches<'a>,
+    answers: Answers<'a>,
 ) -> Result<KnowledgeSource<'a>, Usage>
-    ensures { Gives knowledge_view (knowledge_of (rows_of (found_of matches.now))) result }
+    ensures { Gives knowledge_view (knowledge_of (answers_view answers.entry) (rows_of (found_of matches.now))) result }
 {
     let settings = match settings(alloc, matches) {
         Ok(settings) => settings,
@@ -100,14 +124,28 @@ pub(crate) fn knowledge<'a>(
         returns: value(matches, "returns"),
         settings,
         moment,
+        answers,
     })
+}
+
+/// Like `knowledge`, with the answers that the words name.
+pub(crate) fn possible_knowledge<'a>(
+    alloc: Global,
+    matches: &ArgMatches<'a>,
+) -> Result<KnowledgeSource<'a>, Usage>
+    ensures { Gives knowledge_view (possible_knowledge_of (rows_of (found_of matches.now))) result }
+{
+    let Some(answers) = answers(matches) else {
+        return Err(Usage::AnswersName);
+    };
+    knowledge(alloc, matches, answers)
 }
 
 pub(crate) fn outcomes<'a>(alloc: Global, matches: &ArgMatches<'a>) -> Result<Task<'a>, Usage>
     ensures { GivesTask (outcomes_task (rows_of (found_of matches.now))) result }
 {
     let (source, kind) = stack(matches)?;
-    let knowledge = knowledge(alloc, matches)?;
+    let knowledge = possible_knowledge(alloc, matches)?;
     Ok(Task::Outcomes {
         source,
         kind,

@@ -11,7 +11,7 @@ use crate::number::{DEFAULT_LIMIT, number_in};
 use crate::reading::decisions::decisions;
 use crate::reading::knowledge::knowledge;
 use crate::reading::{stack, value};
-use crate::wanted::{PagePart, PathFilter, Task, Usage};
+use crate::wanted::{Answers, PagePart, PathFilter, Task, Usage};
 use clap::ArgMatches;
 use pam_codes::CodeSet;
 use std::alloc::Global;
@@ -65,7 +65,7 @@ pub(crate) fn paths<'a>(alloc: Global, matches: &ArgMatches<'a>) -> Result<Task<
     let Some(decisions) = decisions(matches) else {
         return Err(Usage::CodeName);
     };
-    let knowledge = knowledge(alloc, matches)?;
+    let knowledge = knowledge(alloc, matches, Answers::Any)?;
     let Some(part) = part(matches) else {
         return Err(Usage::BothEnds);
     };

@@ -224,6 +224,7 @@ fn nothing_known() -> KnowledgeInputs {
             access: None,
             time: None,
         },
+        facts: None,
         returns: None,
     }
 }

@@ -1,10 +1,11 @@
 use Rattle.std.proofs.Common.{refl}
-use Rattle.pam_explain.specs.Arguments.{argument_of_other_kind, bad_arguments, bad_value as bad_value_of_arguments, longer_word, unknown_argument, weak_hash}
+use Rattle.pam_explain.specs.Arguments.{argument_of_other_kind, bad_arguments, bad_value as bad_value_of_arguments, longer_word, not_counted}
+use Rattle.pam_explain.specs.Arguments.{unknown_argument, weak_hash}
 use Rattle.pam_explain.specs.Explanations.{families}
 use Rattle.pam_explain.specs.Hosts.{caller_is_root, jump_into_include, jump_past_end, left_over, lets_anybody_in, lets_nobody_in, never_asked}
 use Rattle.pam_explain.specs.Hosts.{no_function, no_module, no_other, nothing_accepted, other_answers, too_large, unreachable_name}
 use Rattle.pam_explain.specs.Modules.{success_never_counts, unknown_module}
-use Rattle.pam_explain.specs.Named.{failed_read, failed_write, no_such_service, unused_candidate}
+use Rattle.pam_explain.specs.Named.{answers_name, failed_read, failed_write, no_such_service, unused_candidate}
 use Rattle.pam_explain.specs.OldTables.{blank_in_token, empty_separator, finish_minute, leading_blank, long_field, loopback, mask_digits}
 use Rattle.pam_explain.specs.OldTables.{no_line_feed_in_access_table, no_line_feed_in_time_table, odd_bytes, zero_mask}
 use Rattle.pam_explain.specs.Paths.{cursor_syntax, moment_syntax, not_least, moment_range, zone_rule, too_long, too_short}
@@ -34,7 +35,7 @@ unfolding families caller_is_root jump_into_include jump_past_end left_over lets
     bad_accept bad_code bad_fact bad_group bad_logic bad_mask bad_module bad_permission bad_times memory_of_tables missing_field_of_tables netgroup
     nul_byte_of_tables table_too_long two_wildcards user_at_host both_ends both_filters candidate_form code_name format_name kind_name level_name
     login memory_of_words moment no_such_key no_such_module no_such_number not_utf8 failed_read release_form setting_form source failed_write
-    no_such_service unused_candidate
-    argument_of_other_kind bad_arguments bad_value_of_arguments longer_word unknown_argument weak_hash
+    no_such_service unused_candidate answers_name
+    argument_of_other_kind bad_arguments bad_value_of_arguments longer_word not_counted unknown_argument weak_hash
     success_never_counts unknown_module
 returns c = refl

@@ -1,4 +1,4 @@
-use Rattle.std.proofs.Common.{◌∙◌, ◌||◌, Bool, List, ℕ, ap, sym}
+use Rattle.std.proofs.Common.{◌∙◌, ◌||◌, Bool, ap, sym}
 use Rattle.std.specs.List.{list_any}
 use Rattle.pam_codes.specs.Code.{same_name}
 use Rattle.pam_facts.specs.Options.{begins_with, valued_options}

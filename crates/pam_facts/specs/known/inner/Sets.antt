@@ -13,7 +13,7 @@ use Rattle.pam_tables.specs.Options.{Options}
 use Rattle.pam_tables.specs.declared.error.Table.TheVariants.{Access}
 use Rattle.pam_facts.specs.declared.known.error.KnownError.{KnownError}
 use Rattle.pam_facts.specs.known.Answers.{IsFault, access_code, access_read, read_as, result_map, table_answer, time_read, time_told}
-use Rattle.pam_facts.specs.known.Knowledge.{codes_by, first_fault, numbers, reads_access, told_at}
+use Rattle.pam_facts.specs.known.Knowledge.{codes_by, first_fault, numbers, reads_access, said_at, told_at}
 use Rattle.pam_facts.specs.known.Reads.{TablesRead, reads_time}
 use Rattle.pam_facts.specs.known.Tables.{TablesText, tables_view}
 use Rattle.pam_facts.specs.declared.known.knowledge.AccessCode.{AccessCode}
@@ -33,6 +33,10 @@ told_of l m = table_answer l.kind (login_view l.login.now) (tables_view l.tables
 -- the same, by the number of the module
 abbrev pub told_of_number : Lookup → Items → ℕ → Option (Result ℕ KnownError)
 told_of_number l items number = told_at l.kind (login_view l.login.now) (tables_view l.tables.now) l.groups items number
+
+-- what the facts say that the module of a number can answer, for this lookup
+abbrev pub said_of : Lookup → Items → ℕ → List ℕ
+said_of l items number = said_at l.kind (tables_view l.tables.now).facts items number
 
 -- the code that an access table tells, read under these options
 abbrev pub told_under : LoginText → List Group → Options → List ℕ → Result ℕ KnownError
@@ -57,28 +61,28 @@ Lets codes set = (code : ℕ) → code < 31 → answers_by set code ≡ is_in co
 
 -- the codes of a line are those of its module, or the line changes nothing
 abbrev pub Adds : Option (List ℕ) → Option (Result ℕ KnownError) → Option (List ℕ) → Type 0
-Adds None told line = codes_by told line ≡ codes_by told None
-Adds (Some codes) told line = (codes_by told line ≡ codes) × IsCodeSet codes × (codes ≢ [])
+Adds None told line = (said : List ℕ) → codes_by told line said ≡ codes_by told None said
+Adds (Some codes) told line = ((said : List ℕ) → codes_by told line said ≡ codes) × IsCodeSet codes × (codes ≢ [])
 
 -- of the modules 1 to n, the sets up to a number are done, and the later ones are as before
 pub record AreDone (n : ℕ) (before done : ℕ → List ℕ → Type 0) (sets : ℕ → List ℕ) (number : ℕ) : Type 0 where
   pub first : (m : ℕ) → 1 ≤ m → m ≤ number → done m (sets m)
   pub rest : (m : ℕ) → number < m → m ≤ n → before m (sets m)
 
--- the sets from tables, and those from tables and a returns file
-abbrev pub IsUnset : ℕ → List ℕ → Type 0
-IsUnset number set = set ≡ []
+-- the sets from facts, those from tables too, and those from a returns file too
+abbrev pub IsSaidSet : (ℕ → List ℕ) → ℕ → List ℕ → Type 0
+IsSaidSet said number set = Lets (said number) set
 
-abbrev pub IsTableSet : (ℕ → Option (Result ℕ KnownError)) → ℕ → List ℕ → Type 0
-IsTableSet told number set = Lets (codes_by (told number) None) set
+abbrev pub IsTableSet : (ℕ → Option (Result ℕ KnownError)) → (ℕ → List ℕ) → ℕ → List ℕ → Type 0
+IsTableSet told said number set = Lets (codes_by (told number) None (said number)) set
 
-abbrev pub IsLineSet : (ℕ → Option (Result ℕ KnownError)) → (ℕ → Option (List ℕ)) → ℕ → List ℕ → Type 0
-IsLineSet told line number set = Lets (codes_by (told number) (line number)) set
+abbrev pub IsLineSet : (ℕ → Option (Result ℕ KnownError)) → (ℕ → Option (List ℕ)) → (ℕ → List ℕ) → ℕ → List ℕ → Type 0
+IsLineSet told line said number set = Lets (codes_by (told number) (line number) (said number)) set
 
 -- the codes that tables tell for the modules 1 to n, or the first fault, unless an allocation failed
-abbrev pub TellsAll : ℕ → (ℕ → Option (Result ℕ KnownError)) → List ℕ → Result Known KnownError → Type 0
-TellsAll n told numbers (Ok known) = (first_fault told numbers ≡ None) × ((m : ℕ) → 1 ≤ m → m ≤ n → IsTableSet told m (set_for known m))
-TellsAll n told numbers (Err e) = IsFault e (first_fault told numbers ≡ Some e)
+abbrev pub TellsAll : ℕ → (ℕ → Option (Result ℕ KnownError)) → (ℕ → List ℕ) → List ℕ → Result Known KnownError → Type 0
+TellsAll n told said numbers (Ok known) = (first_fault told numbers ≡ None) × ((m : ℕ) → 1 ≤ m → m ≤ n → IsTableSet told said m (set_for known m))
+TellsAll n told said numbers (Err e) = IsFault e (first_fault told numbers ≡ Some e)
 
 -- ---- the tables that are read
 

@@ -12,12 +12,12 @@ use Rattle.pam_text.specs.Members.{Member}
 use Rattle.pam_findings.specs.host.Modules.{Modules}
 use Rattle.pam_findings.specs.host.StackProblems.{ByVerdict, HasWayIn, InStack, IsAt, MayAsk, ModuleHas}
 use Rattle.pam_findings.specs.host.inner.Table.{Adds}
-use Rattle.pam_findings.specs.host.Verdicts.{IsVerdict, Judgement, SaysWhoLogsIn, Verdict}
+use Rattle.pam_findings.specs.host.Verdicts.{IsVerdict, Judgement, SaysWhoLogsIn, Verdict, refuses_all}
 use Rattle.pam_findings.specs.declared.host.judging.Stacked.{Stacked}
+use Rattle.pam_findings.specs.declared.host.judging.Told.{Told}
 use Rattle.pam_findings.specs.declared.host.problem.Problem.{Problem}
 use Rattle.pam_findings.specs.declared.host.problem.Problem.TheVariants as problems
 use Rattle.pam_findings.specs.declared.host.problem.Spot.{Spot}
-use Rattle.pam_findings.specs.declared.host.way_in.WayIn.{WayIn}
 
 abbrev pub walk_spot : ConfError → Spot
 walk_spot fault = record { file = fault.at; line = fault.line; problem = problems.Walk fault.kind }
@@ -71,20 +71,25 @@ pub record Asks (items : Option Items) (verdict : Verdict) (spot : Spot) : Type 
   pub problem_is : spot.problem ≡ problems.NeverAsked
   pub may_ask : MayAsk items verdict spot
 
--- some verdict on a stack, the problems that it gives, the rules that it may ask, and the first way in
+-- what is told of a stack, by the verdict on it
+pub record Tells (kind : Kind) (verdict : Verdict) (told : Told) : Type 0 where
+  pub way_in : kind ≡ Auth → HasWayIn verdict told.way_in
+  pub nobody : told.lets_nobody_in ≡ refuses_all verdict
+
+-- some verdict on a stack, the problems that it gives, the rules that it may ask, and what is told of it
 pub record Judges (folder : Folder) (modules : Modules) (name : List ℕ) (at : Stacked) (items : Items) (old new asked more : List Spot)
-    (way : Option WayIn) : Type 0 where
+    (told : Told) : Type 0 where
   pub verdict : Verdict
   pub is_verdict : IsVerdict folder modules name at.kind verdict
   pub adds : Adds (λ spot. ByVerdict at.service at.kind at.home verdict spot spot.problem) old new
   pub asks : Adds (Asks (Some items) verdict) asked more
-  pub way_in : at.kind ≡ Auth → HasWayIn verdict way
+  pub tells : Tells at.kind verdict told
 
 -- the same, with all problems of the stack
 pub record Looks (folder : Folder) (modules : Modules) (name : List ℕ) (service : ℕ) (kind : Kind) (survey : SurveyText)
-    (spots asked more : List Spot) (way : Option WayIn) : Type 0 where
+    (spots asked more : List Spot) (told : Told) : Type 0 where
   pub verdict : Verdict
   pub is_verdict : IsVerdict folder modules name kind verdict
   pub adds : Adds (InStack modules service name kind survey verdict) [] spots
   pub asks : Adds (Asks survey.items verdict) asked more
-  pub way_in : kind ≡ Auth → HasWayIn verdict way
+  pub tells : Tells kind verdict told

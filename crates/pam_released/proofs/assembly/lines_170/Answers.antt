@@ -1,4 +1,4 @@
-use Rattle.std.proofs.Common.{◌+◌, ◌++◌, ◌∙◌, ℕ, List, false, true, map, ap, arith, eqb, sym}
+use Rattle.std.proofs.Common.{◌+◌, ◌++◌, ◌∙◌, ℕ, Bool, List, [], false, true, map, ap, arith, eqb, sym}
 use Rattle.pam_released.specs.Lines.{physical_lines, without_start_blanks}
 use Rattle.pam_released.specs.Numbered.{numbered_170}
 use Rattle.pam_released.specs.inner.Numbered.{line_view, with_front}
@@ -12,8 +12,8 @@ loop-line-preserved-in_ok-push_trimmed c =
     record {
       found =
           ap (λ (r : List ℕ). with_front (map line_view so_far.lines.items)
-          (numbered_170 (so_far.number + 1) so_far.start r true (physical_lines c.in-Some.after.now))) c.in_ok-push_trimmed.ensures
-          ∙ line_goes _ _ _ _ _ _ _ _ _ c.in-Some.ensures.value (sym c.goes_on.ensures ∙ c.if-goes_on.true) c.loop-line.invariant.found;
+          (numbered_170 c.ends_in_feed-closed.result (so_far.number + 1) so_far.start r true (physical_lines c.in-Some.after.now))) c.in_ok-push_trimmed.ensures
+          ∙ line_goes _ _ _ _ _ _ _ _ _ _ c.in-Some.ensures.value (sym c.goes_on.ensures ∙ c.if-goes_on.true) c.loop-line.invariant.found;
       counted = omega (arith, c.in-Some.ensures.shorter, c.loop-line.invariant.counted);
     }
 
@@ -22,9 +22,10 @@ loop-line-preserved-in_ok-keep_line c =
     let kept = c.keep_line.new.self in
     record {
       found =
-          ap (λ (n : ℕ). with_front (map line_view kept.lines.items) (numbered_170 n n kept.text.items false (physical_lines c.in-Some.after.now)))
+          ap (λ (n : ℕ). with_front (map line_view kept.lines.items)
+          (numbered_170 c.ends_in_feed-closed.result n n kept.text.items false (physical_lines c.in-Some.after.now)))
           c.in_ok-keep_line.ensures.number
-          ∙ line_kept _ _ _ _ _ _ _ _ _ _ _ _ c.in_ok-keep_line.ensures.lines
+          ∙ line_kept _ _ _ _ _ _ _ _ _ _ _ _ _ _ c.in_ok-keep_line.ensures.lines c.is_fed_before.ensures
           (c.in_ok-extend_from_slice.ensures.items
           ∙ ap (λ (r : List ℕ). c.loop-line.assembly.text.items ++ r) (c.without_start_blanks-last.ensures ∙ ap without_start_blanks c.before_hash.ensures))
           (is_something _ (ap (λ (n : ℕ). eqb n 0) (sym c.extend_from_slice.new.self.ok.0) ∙ sym c.is_empty.ensures ∙ c.if-not-is_empty.true))
@@ -35,7 +36,7 @@ loop-line-preserved-in_ok-keep_line c =
 pub loop-line-preserved : goal.loop-line-preserved
 loop-line-preserved c = record {
   found =
-      line_gone _ _ _ _ _ _ _ _ _ _
+      line_gone _ _ _ _ _ _ _ _ _ _ _
       (c.in_ok-extend_from_slice.ensures.items
       ∙ ap (λ (r : List ℕ). c.loop-line.assembly.text.items ++ r) (c.without_start_blanks-last.ensures ∙ ap without_start_blanks c.before_hash.ensures))
       (is_nothing _ (ap (λ (n : ℕ). eqb n 0) (sym c.extend_from_slice.new.self.ok.0) ∙ sym c.is_empty.ensures ∙ c.if-not-is_empty.false))
@@ -45,4 +46,6 @@ loop-line-preserved c = record {
 }
 
 pub returns : goal.returns
-returns c = finished _ _ _ _ _ c.finish.ensures (lines_end _ _ _ _ _ c.in_default.ensures.value) c.loop-line.invariant.found
+returns c =
+    finished _ _ _ _ _ c.finish.ensures (lines_end _ _ _ _ _ _ c.in_default.ensures.value) c.loop-line.invariant.found
+    ∙ ap (λ (t : Bool). numbered_170 t 1 1 [] false (physical_lines c.args.source.bytes.now)) c.ends_in_feed-closed.ensures

@@ -15,13 +15,13 @@ loop-rest-init c = record {
   left = record {
     fuel = length c.args.inside.now;
     enough = c.after_spaces-rest.ensures.shorter;
-    same = told_first _ _ _ refl c.after_spaces-rest.ensures.value;
+    same = told_first c.args.release _ _ _ refl c.after_spaces-rest.ensures.value;
   };
 }
 
 pub returns-in_default : goal.returns-in_default
 returns-in_default c =
-    c.all_bad.ensures ∙ told_fault _ _ _ _ _ (is_something _ (sym c.is_empty.ensures ∙ c.loop-rest-test.true)) (sym c.in_default.ensures.value)
+    c.all_bad.ensures ∙ told_fault c.args.release _ _ _ _ _ (is_something _ (sym c.is_empty.ensures ∙ c.loop-rest-test.true)) (sym c.in_default.ensures.value)
     c.loop-rest.invariant.left.same
 
 pub loop-rest-preserved-in-Named : goal.loop-rest-preserved-in-Named
@@ -30,7 +30,7 @@ loop-rest-preserved-in-Named c = record {
   named = All-set (λ action. IfSome action IsAction) _ _ _ c.in-Some.ensures.action c.loop-rest.invariant.named;
   default = c.loop-rest.invariant.default;
   left =
-      one_pair _ _ _ _ (c.in-Some.subject, c.in-Some.action) _ _ _ _ (is_something _ (sym c.is_empty.ensures ∙ c.loop-rest-test.true))
+      one_pair c.args.release _ _ _ _ (c.in-Some.subject, c.in-Some.action) _ _ _ _ (is_something _ (sym c.is_empty.ensures ∙ c.loop-rest-test.true))
       (sym c.in-Some.ensures.value) c.in-Some.ensures.shorter c.after_spaces-rest-in-loop-rest.ensures.value c.after_spaces-rest-in-loop-rest.ensures.shorter
       (λ ps. rw (c.in-Named.is, c.from.ensures, c.number.ensures.value)
       (actions_after-named _ _ _ _ ps (let few : length c.loop-rest.named ≡ 31 = c.loop-rest.invariant.few in omega arith)))
@@ -43,7 +43,7 @@ loop-rest-preserved-in-Incomplete c = record {
   named = c.loop-rest.invariant.named;
   default = c.loop-rest.invariant.default;
   left =
-      one_pair _ _ _ _ (c.in-Some.subject, c.in-Some.action) _ _ _ _ (is_something _ (sym c.is_empty.ensures ∙ c.loop-rest-test.true))
+      one_pair c.args.release _ _ _ _ (c.in-Some.subject, c.in-Some.action) _ _ _ _ (is_something _ (sym c.is_empty.ensures ∙ c.loop-rest-test.true))
       (sym c.in-Some.ensures.value) c.in-Some.ensures.shorter c.after_spaces-rest-in-loop-rest.ensures.value c.after_spaces-rest-in-loop-rest.ensures.shorter
       (λ ps. rw c.in-Incomplete.is (actions_after-incomplete _ _ _ ps)) c.loop-rest.invariant.left;
 }
@@ -54,11 +54,12 @@ loop-rest-preserved c = record {
   named = c.loop-rest.invariant.named;
   default = rw c.or-default.ensures (some_action c.loop-rest.default c.in-Some.action c.loop-rest.invariant.default c.in-Some.ensures.action);
   left =
-      one_pair _ _ _ _ (c.in-Some.subject, c.in-Some.action) _ _ _ _ (is_something _ (sym c.is_empty.ensures ∙ c.loop-rest-test.true))
+      one_pair c.args.release _ _ _ _ (c.in-Some.subject, c.in-Some.action) _ _ _ _ (is_something _ (sym c.is_empty.ensures ∙ c.loop-rest-test.true))
       (sym c.in-Some.ensures.value) c.in-Some.ensures.shorter c.after_spaces-rest-in-loop-rest.ensures.value c.after_spaces-rest-in-loop-rest.ensures.shorter
       (λ ps. rw (c.in-Default.is, c.or-default.ensures) (actions_after-default _ _ _ ps)) c.loop-rest.invariant.left;
 }
 
 pub returns : goal.returns
 returns c =
-    rw (c.of.ensures, c.unwrap_or.ensures) (told_last _ _ _ _ (is_nothing _ (sym c.is_empty.ensures ∙ c.loop-rest-test.false)) c.loop-rest.invariant.left)
+    rw (c.of.ensures, c.unwrap_or.ensures) (told_last c.args.release _ _ _ _ (is_nothing _ (sym c.is_empty.ensures
+    ∙ c.loop-rest-test.false)) c.loop-rest.invariant.left)

@@ -9,7 +9,7 @@ invariant-loop-rest l = record {
   few : length l.named ≡ 31;
   named : All (λ action. IfSome action IsAction) l.named;
   default : IfSome l.default IsAction;
-  left : Left l.named l.default l.rest (released_actions l.inside);
+  left : Left l.release l.named l.default l.rest (released_actions l.release l.inside);
 }
 
 abbrev pub decreases-loop-rest : goal.decreases-loop-rest

@@ -17,13 +17,13 @@ loop-line-init c =
 
 pub loop-line-preserved : goal.loop-line-preserved
 loop-line-preserved c =
-    rule_pushed c.args.form _ _ _ (line_view c.line-item.result) _ _ _ c.in_ok-push.ensures.items refl
+    rule_pushed c.args.release c.args.form _ _ _ (line_view c.line-item.result) _ _ _ c.in_ok-push.ensures.items refl
     (line_at c.deref-line-items.result.now c.loop-line.line-index c.line-item.result c.loop-line-test.true c.line-item.is)
-    (reading_at c.args.form _ _ _ _ _ c.in_ok-reading.ensures c.iter.ensures c.in_ok-texts.ensures c.deref.ensures.value)
+    (reading_at c.args.release c.args.form (line_view c.line-item.result) _ _ _ c.in_ok-reading.ensures c.iter.ensures c.in_ok-texts.ensures)
     c.loop-line.invariant
 
 pub returns-clause-rules : goal.returns-clause-rules
-returns-clause-rules c = rules_read c.args.form _ _ _ (no_line _ _ c.loop-line-test.false) c.loop-line.invariant
+returns-clause-rules c = rules_read c.args.release c.args.form _ _ _ (no_line _ _ c.loop-line-test.false) c.loop-line.invariant
 
 pub returns-clause-readings : goal.returns-clause-readings
 returns-clause-readings c = plain_rules c.args.release c.args.form c.args.source.bytes.now _ (returns-clause-rules c)

@@ -5,5 +5,5 @@ use Rattle.pam_released.proofs.reading.released_rules.Given as goal
 
 abbrev pub invariant-loop-line : goal.invariant-loop-line
 invariant-loop-line l =
-    Some (map numbered_view l.rules.items ++ map (numbered_reading l.form) (drop l.line-index (map line_view l.line-items)))
+    Some (map numbered_view l.rules.items ++ map (numbered_reading l.fn.release l.form) (drop l.line-index (map line_view l.line-items)))
     ≡ numbered_rules l.fn.release l.form l.source.bytes.now

@@ -5,7 +5,7 @@ use Rattle.pam_released.proofs.texts.split_inside.Given as goal
 
 abbrev pub invariant-loop-first : goal.invariant-loop-first
 invariant-loop-first l = record {
-  read : onto_line l.text.items (texts_in Inside l.rest) ≡ texts_in Inside l.bytes;
+  read : onto_line l.text.items (texts_in l.feed Inside l.rest) ≡ texts_in l.feed Inside l.bytes;
   shorter : length l.rest ≤ length l.bytes;
 }
 

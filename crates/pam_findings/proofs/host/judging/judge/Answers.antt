@@ -1,9 +1,6 @@
-use Rattle.std.proofs.Common.{◌≡◌, List, subst, ℕ}
-use Rattle.std.proofs.lemmas.Result.{IfOk-weaker}
-use Rattle.pam_conf.specs.declared.rule.Kind.TheVariants.{Auth}
+use Rattle.std.proofs.Common.{List, refl, subst, ℕ}
 use Rattle.pam_text.specs.Members.{Member}
-use Rattle.pam_findings.specs.host.inner.Looked.{Judges, OfModules, judgement_of}
-use Rattle.pam_findings.specs.host.StackProblems.{HasWayIn}
+use Rattle.pam_findings.specs.host.inner.Looked.{OfModules, judgement_of}
 use Rattle.pam_findings.specs.host.inner.Table.{Adds}
 use Rattle.pam_findings.specs.host.Verdicts.{Judged}
 use Rattle.pam_findings.specs.declared.host.problem.Problem.TheVariants as problems
@@ -15,10 +12,7 @@ returns-in-Ok c folder name stack =
     let free = c.answers-free.result in
     let failing = c.answers_if_checks_fail-failing.result in
     let j = judgement_of c.args.stack free failing c.in-Ok.soundness in
-    IfOk-weaker c.way_into.result (λ way. c.args.at.kind ≡ Auth → HasWayIn (Judged j) way)
-    (Judges folder c.args.modules.now name c.args.at c.args.stack c.args.spots.now.items c.push_judged.new.spots.items
-    c.args.asked.now.items c.push_asked.new.asked.items)
-    (λ way h. record {
+    record {
       verdict = Judged j;
       is_verdict = record {
         stack = stack;
@@ -34,6 +28,5 @@ returns-in-Ok c folder name stack =
       asks = asks-of c.args.stack (Judged j) c.args.asked.now.items c.push_asked.new.asked.items
           (subst (λ (numbers : List ℕ). Adds (OfModules problems.NeverAsked c.args.stack (λ number. Member number numbers → ⊥))
           c.args.asked.now.items c.push_asked.new.asked.items) c.deref.ensures.value c.in_ok-push_asked-in-Ok.ensures);
-      way_in = h;
-    })
-    (c.way_into.ensures free)
+      tells = record { way_in = c.in_ok-way_in-in-Ok.ensures free; nobody = refl };
+    }

@@ -9,9 +9,9 @@ returns c =
     c.args.spots.now.items c.push_if.new.spots.items c.push_if-2.new.spots.items c.push_if-3.new.spots.items c.push_if-4.new.spots.items
     c.push_if-5.new.spots.items c.push_arguments.new.spots.items c.push_if-6.new.spots.items
     c.is_other-is_other.result c.is_missing-missing.result c.lacks_function-lacks_function.result c.caller_is_root-caller_is_root.result
-    c.lacks_separator-lacks_separator.result c.is_unknown-is_unknown.result
+    c.is_daemon_service-is_daemon.result c.lacks_separator-lacks_separator.result c.is_unknown-is_unknown.result
     c.is_other-is_other.ensures c.is_missing-missing.ensures c.lacks_function-lacks_function.ensures c.caller_is_root-caller_is_root.ensures
-    c.lacks_separator-lacks_separator.ensures
+    c.is_daemon_service-is_daemon.ensures c.lacks_separator-lacks_separator.ensures
     (says c.is_unknown-is_unknown.result c.is_unknown-is_unknown.ensures.yes c.is_unknown-is_unknown.ensures.no)
     c.in_ok-push_if.ensures c.in_ok-push_if-2.ensures c.in_ok-push_if-3.ensures c.in_ok-push_if-4.ensures
     c.in_ok-push_if-5.ensures c.in_ok-push_arguments.ensures c.in_ok-push_if-6.ensures

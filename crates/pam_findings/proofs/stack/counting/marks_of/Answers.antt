@@ -66,5 +66,6 @@ pub returns : goal.returns
 returns c n from =
     let marks = c.loop-node.marks in
     sym (or-false (mark_of marks n))
-    ∙ sym (ap (λ (x : List Node). mark_of marks n || some_counts c.args.known.now n x) (drop_all c.loop-node.node-index c.args.nodes.now c.loop-node-test.false))
+    ∙ sym (ap (λ (x : List Node). mark_of marks n || some_counts c.args.known.now n x)
+    (drop_all c.loop-node.node-index c.args.nodes.now c.loop-node-test.false))
     ∙ c.loop-node.invariant.marked n from

@@ -5,4 +5,4 @@ pub returns-in_err-put : goal.returns-in_err-put
 returns-in_err-put g c = err-front _ c.from_residual.ensures.0 (front-longer _ c.in_err-put.ensures)
 
 pub returns : goal.returns
-returns g c = writes-then _ _ _ c.in_ok-put.ensures c.put_one_word.ensures
+returns g c = writes-then _ _ _ c.in_ok-put.ensures c.put_shown.ensures

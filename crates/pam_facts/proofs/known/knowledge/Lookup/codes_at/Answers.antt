@@ -21,10 +21,10 @@ returns-in-Some c =
 
 pub returns-in-None : goal.returns-in-None
 unfolding told_at line_at
-returns-in-None c =
+returns-in-None c said =
     let l = c.args.self.now in
     subst (λ (m : Option ModuleText).
     codes_by (option_and_then (table_answer l.kind (login_view l.login.now) (tables_view l.tables.now) l.groups) m)
-    (option_and_then (λ t. codes_for c.args.returns.now (name_of_path t.path)) m)
-    ≡ codes_by (option_and_then (table_answer l.kind (login_view l.login.now) (tables_view l.tables.now) l.groups) m) None)
+    (option_and_then (λ t. codes_for c.args.returns.now (name_of_path t.path)) m) said
+    ≡ codes_by (option_and_then (table_answer l.kind (login_view l.login.now) (tables_view l.tables.now) l.groups) m) None said)
     c.in-None.ensures.module refl

@@ -4,7 +4,7 @@ use Rattle.pam_conf.specs.Stack.{module_count}
 use Rattle.pam_paths.specs.Known.{set_for}
 use Rattle.pam_paths.specs.declared.knowledge.Known.{Known}
 use Rattle.pam_tables.specs.Login.{login_view}
-use Rattle.pam_facts.specs.known.inner.Sets.{AreDone, IsUnset, IsTableSet, told_of_number}
+use Rattle.pam_facts.specs.known.inner.Sets.{AreDone, IsSaidSet, IsTableSet, said_of, told_of_number}
 use Rattle.pam_facts.specs.known.Tables.{tables_view}
 use Rattle.pam_facts.proofs.KnownProofs.FaultSteps.{fault_found, faults_done, no_fault, none_here, told_none, told_some}
 use Rattle.pam_facts.proofs.KnownProofs.ReaderSteps.{code_small_at}
@@ -27,11 +27,12 @@ loop-index-preserved c =
     let l = c.args.self.now in
     let i = c.loop-index.index in
     let told = told_of_number c.args.self.now c.args.stack.now in
+    let said = said_of c.args.self.now c.args.stack.now in
     let answer = c.in_ok-code.field-0 in
     let within : c.loop-index.index < module_count c.args.stack.now = omega (arith, c.modules-index-end.ensures.count, c.loop-index-test.true) in
     let most : module_count c.args.stack.now ≤ 256 = omega (arith, c.modules-index-end.ensures.count, c.modules-index-end.ensures.most) in
     let faults = none_here told n i within _ (no_fault answer (told (i + 1)) c.in_ok-code.ensures.told) c.loop-index.invariant.faults in
-    let AreSo : Known → Type 0 = λ k. AreDone n IsUnset (IsTableSet told) (set_for k) (i + 1) in
+    let AreSo : Known → Type 0 = λ k. AreDone n (IsSaidSet said) (IsTableSet told said) (set_for k) (i + 1) in
     elim c.match-branch-2.branch [
       | in-Some w ↦
           let is = told_some answer (told (i + 1)) w.in-Some.code c.in_ok-code.ensures.told w.in-Some.is in
@@ -39,18 +40,18 @@ loop-index-preserved c =
           record {
             faults = faults;
             sets = subst AreSo (sym w.known-is)
-                (changes n IsUnset (IsTableSet told) (set_for c.loop-index.known) i within c.loop-index.invariant.sets (set_for w.set.new.self)
+                (changes n (IsSaidSet said) (IsTableSet told said) (set_for c.loop-index.known) i within c.loop-index.invariant.sets (set_for w.set.new.self)
                 w.single.result
                 (λ m low high. w.set.ensures m low (omega (arith, most, high)))
-                (told_set (told (i + 1)) w.in-Some.code w.single.result small is w.single.ensures));
+                (told_set (told (i + 1)) (said (i + 1)) w.single.result w.in-Some.code small is w.single.ensures));
             kept = c.answer_at.ensures.kept;
           }
       | in_default w ↦
           record {
             faults = faults;
             sets = subst AreSo (sym w.known-is)
-                (stays n IsUnset (IsTableSet told) (set_for c.loop-index.known) i within c.loop-index.invariant.sets
-                (untold_set (told (i + 1)) _ (told_none answer (told (i + 1)) c.in_ok-code.ensures.told w.in_default.is)));
+                (stays n (IsSaidSet said) (IsTableSet told said) (set_for c.loop-index.known) i within c.loop-index.invariant.sets
+                (untold_set (told (i + 1)) (said (i + 1)) _ (told_none answer (told (i + 1)) c.in_ok-code.ensures.told w.in_default.is)));
             kept = c.answer_at.ensures.kept;
           }
     ]

@@ -1,4 +1,4 @@
-use Rattle.std.proofs.Common.{◌∙◌, ◌++◌, List, ap, map, slice_get, subst}
+use Rattle.std.proofs.Common.{◌∙◌, ◌++◌, List, ap, map, subst}
 use Rattle.pam_conf.specs.Survey.{SurveyText}
 use Rattle.pam_conf.specs.declared.conf_error.ConfError.{ConfError}
 use Rattle.pam_text.specs.Members.{Member}
@@ -7,7 +7,7 @@ use Rattle.pam_findings.specs.host.inner.Looked.{walk_spot}
 use Rattle.pam_findings.specs.host.inner.Table.{Puts, with_stack}
 use Rattle.pam_findings.specs.declared.host.problem.Spot.{Spot}
 use Rattle.pam_findings.proofs.HostProofs.Adding.{adds-walk}
-use Rattle.pam_findings.proofs.HostProofs.Others.{adds-answer, puts-beside}
+use Rattle.pam_findings.proofs.HostProofs.Others.{puts-beside}
 use Rattle.pam_findings.proofs.host.stacks.Checker.add_beside.Goals as goal
 
 pub returns : goal.returns
@@ -16,15 +16,11 @@ returns c =
     let name = c.args.name.now in
     let at = c.args.at in
     let jumps = c.in_ok-spots.spots.items in
-    let answers = c.push_whole.new.spots.items in
     let all = c.push_walk.new.spots.items in
     let faults = (beside_text c.args.self.now.beside.now at.kind).faults in
-    puts-beside rules faults at.service name at.kind jumps answers all c.args.table.now c.put_stack_at_all.new.table
+    puts-beside rules faults at.service name at.kind jumps all c.args.table.now c.put_stack_at_all.new.table
     (c.in_ok-spots.ensures name c.requires.survey)
-    (adds-answer rules at.service name at.kind at.home c.in_ok-other_answers.other_answers
-    (c.requires.home ∙ ap (λ (s : SurveyText). slice_get s.reached 0) c.requires.survey) (c.in_ok-other_answers.ensures c.requires.survey) jumps answers
-    c.in_ok-push_whole.ensures)
-    (adds-walk faults answers all (c.in_ok-push_walk.ensures ∙ ap (λ (l : List ConfError). answers ++ map walk_spot l)
+    (adds-walk faults jumps all (c.in_ok-push_walk.ensures ∙ ap (λ (l : List ConfError). jumps ++ map walk_spot l)
     (c.deref.ensures.value ∙ ap (λ (s : SurveyText). s.faults) c.of_kind.ensures)))
     (subst (λ (l : List Spot). Puts (λ spot. Member spot l) (with_stack at.service at.kind) c.args.table.now c.put_stack_at_all.new.table)
     c.deref-2.ensures.value c.in_ok-put_stack_at_all.ensures)

@@ -1,4 +1,4 @@
-use Rattle.std.proofs.Common.{◌∙◌, sym}
+use Rattle.std.proofs.Common.{◌∙◌, subst, sym}
 use Rattle.std.proofs.lemmas.Bool.{false≢true}
 use Rattle.std.proofs.lemmas.Result.{IfOk-weaker}
 use Rattle.pam_conf.specs.SurveyText.{survey_text}
@@ -9,20 +9,29 @@ use Rattle.pam_findings.proofs.host.stacks.Checker.look.Goals as goal
 
 pub returns-in_default : goal.returns-in_default
 returns-in_default c is =
-    looks-none c.args.self.now.rules.now c.args.self.now.modules.now c.args.name.now c.args.at.service c.args.at.kind (survey_text c.args.survey) is
+    let rules = c.args.self.now.rules.now in
+    let at = c.args.at in
+    let asked = c.args.asked.now.items in
+    subst (Looks rules c.args.self.now.modules.now c.args.name.now at.service at.kind (survey_text c.args.survey) c.push_walk.new.spots.items asked asked)
+    (sym c.nothing.ensures)
+    (looks-none c.args.self.now.rules.now c.args.self.now.modules.now c.args.name.now c.args.at.service c.args.at.kind (survey_text c.args.survey) is
     c.stack_is_sound_survey.ensures.sound c.in_default.is c.push_walk.new.spots.items c.args.asked.now.items
     (walk-seen c.args.survey.faults.items c.deref.result.now c.args.spots.now.items c.push_walk.new.spots.items c.requires.none c.deref.ensures.value
-    c.in_ok-push_walk.ensures)
+    c.in_ok-push_walk.ensures))
 
 pub returns-then-not-is_sound : goal.returns-then-not-is_sound
 returns-then-not-is_sound c is =
-    looks-unsound c.args.self.now.rules.now c.args.self.now.modules.now c.args.name.now c.args.at.service c.args.at.kind (survey_text c.args.survey) is
+    let rules = c.args.self.now.rules.now in
+    let at = c.args.at in
+    subst (Looks rules c.args.self.now.modules.now c.args.name.now at.service at.kind (survey_text c.args.survey) c.push_modules.new.spots.items
+    c.args.asked.now.items c.push_asked.new.asked.items) (sym c.nothing-then-not-is_sound.ensures)
+    (looks-unsound c.args.self.now.rules.now c.args.self.now.modules.now c.args.name.now c.args.at.service c.args.at.kind (survey_text c.args.survey) is
     c.stack_is_sound_survey.ensures.sound c.in-Some.stack c.in-Some.is
     (λ s. false≢true (sym c.if-not-is_sound.true ∙ c.is_sound-is_sound.ensures.1 s))
     c.push_walk.new.spots.items c.push_modules.new.spots.items c.args.asked.now.items c.push_asked.new.asked.items
     (walk-seen c.args.survey.faults.items c.deref.result.now c.args.spots.now.items c.push_walk.new.spots.items c.requires.none c.deref.ensures.value
     c.in_ok-push_walk.ensures)
-    c.in_ok-push_modules.ensures c.in_ok-push_asked.ensures
+    c.in_ok-push_modules.ensures c.in_ok-push_asked.ensures)
 
 pub returns : goal.returns
 returns c is =
@@ -39,10 +48,10 @@ returns c is =
     let more = c.judge.new.asked.items in
     IfOk-weaker c.judge.result (Judges rules modules name at c.in-Some.stack second spots asked more)
     (Looks rules modules name at.service at.kind survey spots asked more)
-    (λ way judged.
+    (λ told judged.
     looks-judged rules modules name at.service at.kind survey is c.stack_is_sound_survey.ensures.sound c.in-Some.stack c.in-Some.is
     c.push_walk.new.spots.items second spots asked more
     (walk-seen c.args.survey.faults.items c.deref.result.now c.args.spots.now.items c.push_walk.new.spots.items c.requires.none c.deref.ensures.value
     c.in_ok-push_walk.ensures)
-    c.in_ok-push_modules.ensures way at.home c.requires.home judged)
+    c.in_ok-push_modules.ensures told at.home c.requires.home judged)
     (c.judge.ensures rules name stack)

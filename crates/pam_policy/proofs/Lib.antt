@@ -1,0 +1,2 @@
+pub mod SearchProofs
+pub mod TextProofs

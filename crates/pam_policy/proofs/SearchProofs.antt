@@ -1,0 +1,15 @@
+pub mod Along
+pub mod Asking
+pub mod Best
+pub mod Choosing
+pub mod Digits
+pub mod Distances
+pub mod Events
+pub mod Firsts
+pub mod Graphs
+pub mod Implied
+pub mod Nodes
+pub mod Onward
+pub mod Ranks
+pub mod Short
+pub mod Witnessing

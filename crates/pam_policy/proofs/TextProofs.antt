@@ -1,0 +1,10 @@
+pub mod CodeSteps
+pub mod EventSteps
+pub mod FaultSteps
+pub mod LawSteps
+pub mod ListSteps
+pub mod PolicySteps
+pub mod RuleSteps
+pub mod ServiceSteps
+pub mod TestSteps
+pub mod WordSteps

@@ -1,0 +1,5 @@
+-- What no public contract cites.
+pub mod Choices
+pub mod Distances
+pub mod Monitor
+pub mod Searches

@@ -1,0 +1,12 @@
+pub mod Codes
+pub mod Error
+pub mod Events
+pub mod Laws
+pub mod Lists
+pub mod Policy
+pub mod Rules
+pub mod Sentences
+pub mod Services
+pub mod Tests
+pub mod Words
+pub mod inner

@@ -1,0 +1,5 @@
+//! Policies: what an administrator demands of the stacks of a host, and whether it holds.
+#![tactic(auto)]
+
+pub mod search;
+pub mod text;
