@@ -14,6 +14,8 @@ mod rule;
 mod sentence;
 mod services;
 mod test;
+#[cfg(test)]
+mod tests;
 mod words;
 
 pub use codes::Codes;

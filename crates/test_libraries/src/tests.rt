@@ -7,7 +7,6 @@ mod faults;
 mod files;
 mod halting;
 mod picture;
-mod policies;
 mod rules;
 mod runs;
 mod same;

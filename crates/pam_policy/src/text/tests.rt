@@ -1,12 +1,17 @@
 //! Policy files: each fault, each form of a sentence, and what the parts of rules mean.
 
-use crate::tests::same::same;
+use crate::text::{Codes, Ending, Event, Events, Policy, PolicyFault, Sentence};
 use pam_codes::{Code, CodeSet};
-use pam_policy::text::{Codes, Ending, Event, Events, Policy, PolicyFault, Sentence};
 use pam_text::Texts;
 use std::alloc::Global;
+use std::fmt::Debug;
 use std::process::Abort;
 use std::test::Fail;
+
+/// Asserts that what was got is what was wanted. `what` says in the message of a failure what that is.
+fn same<T: PartialEq + Debug>(rt: &impl Abort, what: &str, got: &T, wanted: &T) {
+    assert_eq!(rt; got, wanted, "{what}");
+}
 
 fn fault_of(alloc: Global, text: &str, rules_before: usize) -> Option<(PolicyFault, u32)> {
     match Policy::read(alloc, text.as_bytes(), rules_before) {
@@ -129,123 +134,196 @@ fn faults_of_files(rt: HostRuntime) -> Result<(), Fail> {
     Ok(())
 }
 
+/// How the events of a list are joined, if there is a list.
+#[derive(Clone, Copy, Debug, PartialEq, Eq)]
+enum Joint {
+    NoList,
+    Or,
+    And,
+}
+
+#[derive(Clone, Copy, Debug, PartialEq, Eq)]
+enum Form {
+    Never,
+    Can,
+    Before,
+}
+
 /// A list of events: its joint, the number of its events, and the codes of the first.
-type Listed = (&'static str, usize, Option<Codes>);
+type Listed = (Joint, usize, Option<Codes>);
 
 fn listed(events: Option<&Events<'_>>) -> Listed {
     match events {
-        Some(Events::Or(events)) => ("or", events.len(), events.first().map(|event| event.codes)),
-        Some(Events::And(events)) => ("and", events.len(), events.first().map(|event| event.codes)),
-        None => ("", 0, None),
+        Some(Events::Or(events)) => (
+            Joint::Or,
+            events.len(),
+            events.first().map(|event| event.codes),
+        ),
+        Some(Events::And(events)) => (
+            Joint::And,
+            events.len(),
+            events.first().map(|event| event.codes),
+        ),
+        None => (Joint::NoList, 0, None),
     }
 }
 
 /// A sentence: its form, its ending, and its lists.
-type Shape = (&'static str, Option<Ending>, Listed, Listed);
+type Shape = (Form, Option<Ending>, Listed, Listed);
 
 fn shape_of(sentence: &Sentence<'_>) -> Shape {
     match sentence {
         Sentence::Never(condition) => (
-            "never",
+            Form::Never,
             Some(condition.ending),
             listed(condition.with.as_ref()),
             listed(condition.without.as_ref()),
         ),
         Sentence::Can(condition) => (
-            "can",
+            Form::Can,
             Some(condition.ending),
             listed(condition.with.as_ref()),
             listed(condition.without.as_ref()),
         ),
-        Sentence::Before(first, others) => {
-            ("before", None, listed(Some(first)), listed(Some(others)))
-        }
+        Sentence::Before(first, others) => (
+            Form::Before,
+            None,
+            listed(Some(first)),
+            listed(Some(others)),
+        ),
     }
 }
 
-fn expect_shape(rt: &impl Abort, alloc: Global, text: &str, wanted: Shape) -> Result<(), Fail> {
+fn expect_shape(rt: &impl Abort, alloc: Global, text: &str, wanted: &Shape) -> Result<(), Fail> {
     let policy = Policy::read(alloc, text.as_bytes(), 0)?;
     let shape = policy.rules.first().map(|rule| shape_of(&rule.sentence));
-    same(rt, text, &shape, &Some(wanted));
+    same(rt, text, &shape, &Some(*wanted));
     Ok(())
+}
+
+fn codes_of(codes: &[Code]) -> CodeSet {
+    let mut set = CodeSet::empty();
+    for code in codes {
+        set.insert(*code);
+    }
+    set
+}
+
+fn no_list() -> Listed {
+    (Joint::NoList, 0, None)
+}
+
+fn or(count: usize, codes: Codes) -> Listed {
+    (Joint::Or, count, Some(codes))
+}
+
+fn and(count: usize, codes: Codes) -> Listed {
+    (Joint::And, count, Some(codes))
+}
+
+fn never(ending: Ending, with: Listed, without: Listed) -> Shape {
+    (Form::Never, Some(ending), with, without)
+}
+
+fn can(ending: Ending, with: Listed, without: Listed) -> Shape {
+    (Form::Can, Some(ending), with, without)
+}
+
+fn before(first: Listed, others: Listed) -> Shape {
+    (Form::Before, None, first, others)
+}
+
+fn failures() -> CodeSet {
+    CodeSet::all().without(codes_of(&[Code::SUCCESS, Code::NEW_AUTHTOK_REQD, Code::IGNORE]))
+}
+
+fn failing() -> Codes {
+    Codes::Given(failures())
+}
+
+fn any() -> Codes {
+    Codes::Given(CodeSet::all())
 }
 
 #[test]
 fn sentences(rt: HostRuntime) -> Result<(), Fail> {
-    let none = ("", 0, None);
-    let any = Some(Codes::Given(CodeSet::all()));
-    let lets_go_on = Some(Codes::LetsGoOn);
-    let success = CodeSet::single(Code::SUCCESS);
-    let mut others = success;
-    others.insert(Code::NEW_AUTHTOK_REQD);
-    others.insert(Code::IGNORE);
-    let failure = CodeSet::all().without(others);
-    let failing = Some(Codes::Given(failure));
-    let succeeds = Some(Ending::Succeeds);
-    let ends = Some(Ending::Ends);
     let rows = [
         (
             "* * needs a or b",
-            ("never", succeeds, none, ("or", 2, lets_go_on)),
+            never(Ending::Succeeds, no_list(), or(2, Codes::LetsGoOn)),
         ),
         (
             "* * needs a and b",
-            ("never", succeeds, none, ("and", 2, lets_go_on)),
+            never(Ending::Succeeds, no_list(), and(2, Codes::LetsGoOn)),
         ),
         (
             "* * needs a=failure",
-            ("never", succeeds, none, ("or", 1, failing)),
+            never(Ending::Succeeds, no_list(), or(1, failing())),
         ),
-        ("* * obeys a", ("never", succeeds, ("or", 1, failing), none)),
+        (
+            "* * obeys a",
+            never(Ending::Succeeds, or(1, failing()), no_list()),
+        ),
         (
             "* * obeys a and b",
-            ("never", succeeds, ("or", 2, failing), none),
+            never(Ending::Succeeds, or(2, failing()), no_list()),
         ),
-        ("* * always asks a", ("never", ends, none, ("or", 1, any))),
-        ("* * asks a and b", ("never", ends, none, ("and", 2, any))),
         (
-            "* * asks a before b",
-            ("before", None, ("or", 1, any), ("or", 1, any)),
+            "* * always asks a",
+            never(Ending::Ends, no_list(), or(1, any())),
         ),
+        (
+            "* * asks a and b",
+            never(Ending::Ends, no_list(), and(2, any())),
+        ),
+        ("* * asks a before b", before(or(1, any()), or(1, any()))),
         (
             "* * always asks a and b before c and d",
-            ("before", None, ("and", 2, any), ("or", 2, any)),
+            before(and(2, any()), or(2, any())),
         ),
-        ("* * never asks a", ("never", ends, ("or", 1, any), none)),
+        (
+            "* * never asks a",
+            never(Ending::Ends, or(1, any()), no_list()),
+        ),
         (
             "* * never ask a and b",
-            ("never", ends, ("and", 2, any), none),
+            never(Ending::Ends, and(2, any()), no_list()),
         ),
-        ("* * can ask a or b", ("can", ends, ("or", 2, any), none)),
-        ("* * never succeeds", ("never", succeeds, none, none)),
+        (
+            "* * can ask a or b",
+            can(Ending::Ends, or(2, any()), no_list()),
+        ),
+        (
+            "* * never succeeds",
+            never(Ending::Succeeds, no_list(), no_list()),
+        ),
         (
             "* * can succeed without a=FAILURE",
-            ("can", succeeds, none, ("or", 1, failing)),
+            can(Ending::Succeeds, no_list(), or(1, failing())),
         ),
         (
             "* * never fail with a=but:success,new_authtok_reqd,ignore and b=any without c=Any",
-            (
-                "never",
-                Some(Ending::Fails),
-                ("and", 2, failing),
-                ("or", 1, any),
-            ),
+            never(Ending::Fails, and(2, failing()), or(1, any())),
         ),
         (
             "* * can end with a=any",
-            ("can", ends, ("or", 1, any), none),
+            can(Ending::Ends, or(1, any()), no_list()),
         ),
         (
             "* * never decides SUCCESS",
-            ("never", Some(Ending::Decides(success)), none, none),
+            never(
+                Ending::Decides(codes_of(&[Code::SUCCESS])),
+                no_list(),
+                no_list(),
+            ),
         ),
         (
             "* * can decide failure",
-            ("can", Some(Ending::Decides(failure)), none, none),
+            can(Ending::Decides(failures()), no_list(), no_list()),
         ),
     ];
     for (text, wanted) in rows {
-        expect_shape(&rt, rt.alloc(), text, wanted)?;
+        expect_shape(&rt, rt.alloc(), text, &wanted)?;
     }
     Ok(())
 }
@@ -289,13 +367,12 @@ fn first_event<'s, 'a>(sentence: &'s Sentence<'a>) -> Option<&'s Event<'a>> {
     }
 }
 
-/// Whether the first test of the first event of a rule holds of these arguments.
-fn holds(alloc: Global, text: &str, arguments: &[&str]) -> Result<Option<bool>, Fail> {
+/// Whether the first test of the first event of a rule holds of two arguments.
+fn holds(alloc: Global, text: &str, first: &str, second: &str) -> Result<Option<bool>, Fail> {
     let policy = Policy::read(alloc, text.as_bytes(), 0)?;
     let mut texts = Texts::new(alloc);
-    for argument in arguments {
-        texts.push(argument.as_bytes())?;
-    }
+    texts.push(first.as_bytes())?;
+    texts.push(second.as_bytes())?;
     let Some(rule) = policy.rules.first() else {
         return Ok(None);
     };
@@ -308,34 +385,31 @@ fn holds(alloc: Global, text: &str, arguments: &[&str]) -> Result<Option<bool>, 
 #[test]
 fn arguments(rt: HostRuntime) -> Result<(), Fail> {
     let rows = [
-        ("* * never asks a[nullok]", ["nullok", "debug"], true),
-        (
-            "* * never asks a[nullok]",
-            ["nullok_secure", "debug"],
-            false,
-        ),
-        ("* * never asks a[!nullok]", ["nullok", "debug"], false),
-        ("* * never asks a[!sha512]", ["nullok", "debug"], true),
-        ("* * never asks a[remember=]", ["remember=5", "debug"], true),
-        ("* * never asks a[remember=]", ["remember", "debug"], false),
-        ("* * never asks a[deny>5]", ["deny=5", "deny=6"], true),
-        ("* * never asks a[deny>5]", ["deny=6", "deny=5"], false),
-        ("* * never asks a[deny<=5]", ["deny=5", "debug"], true),
-        ("* * never asks a[deny<5]", ["deny=5", "debug"], false),
-        ("* * never asks a[deny>=-1]", ["deny=-1", "debug"], true),
-        ("* * never asks a[deny<5]", ["deny", "debug"], false),
-        ("* * never asks a[deny<5]", ["deny=x", "debug"], false),
-        ("* * never asks a[!deny<5]", ["deny=x", "debug"], true),
+        ("* * never asks a[nullok]", "nullok", "debug", true),
+        ("* * never asks a[nullok]", "nullok_secure", "debug", false),
+        ("* * never asks a[!nullok]", "nullok", "debug", false),
+        ("* * never asks a[!sha512]", "nullok", "debug", true),
+        ("* * never asks a[remember=]", "remember=5", "debug", true),
+        ("* * never asks a[remember=]", "remember", "debug", false),
+        ("* * never asks a[deny>5]", "deny=5", "deny=6", true),
+        ("* * never asks a[deny>5]", "deny=6", "deny=5", false),
+        ("* * never asks a[deny<=5]", "deny=5", "debug", true),
+        ("* * never asks a[deny<5]", "deny=5", "debug", false),
+        ("* * never asks a[deny>=-1]", "deny=-1", "debug", true),
+        ("* * never asks a[deny<5]", "deny", "debug", false),
+        ("* * never asks a[deny<5]", "deny=x", "debug", false),
+        ("* * never asks a[!deny<5]", "deny=x", "debug", true),
         (
             "* * never asks a[deny<5]",
-            ["deny=0000000001", "debug"],
+            "deny=0000000001",
+            "debug",
             false,
         ),
-        ("* * never asks a[deny<x]", ["deny<x", "debug"], true),
-        ("* * never asks a[<5]", ["<5", "debug"], true),
+        ("* * never asks a[deny<x]", "deny<x", "debug", true),
+        ("* * never asks a[<5]", "<5", "debug", true),
     ];
-    for (text, arguments, wanted) in rows {
-        let got = holds(rt.alloc(), text, &arguments)?;
+    for (text, first, second, wanted) in rows {
+        let got = holds(rt.alloc(), text, first, second)?;
         same(&rt, text, &got, &Some(wanted));
     }
     Ok(())
