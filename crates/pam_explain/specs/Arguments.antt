@@ -98,7 +98,7 @@ bad_arguments =
       example =
           codes "# login\n"
           ++ codes "auth required pam_unix.so\n"
-          ++ codes "session optional pam_exec.so quiet seteuid";
+          ++ codes "auth optional pam_exec.so quiet seteuid";
       linux_pam =
           codes "1.5.2 and 1.7.0 leave arguments to the modules, which\n"
           ++ codes "answer service_err. pam_exec lets the first pass of password go on.";

@@ -122,7 +122,7 @@ fn bad_arguments() -> Explanation
         example: concat!(
             "# login\n",
             "auth required pam_unix.so\n",
-            "session optional pam_exec.so quiet seteuid"
+            "auth optional pam_exec.so quiet seteuid"
         ),
         linux_pam: concat!(
             "1.5.2 and 1.7.0 leave arguments to the modules, which\n",
