@@ -1,2 +1,4 @@
+pub mod NamesProofs
+pub mod RulesProofs
 pub mod SearchProofs
 pub mod TextProofs

@@ -1,2 +1,4 @@
+pub mod names
+pub mod rules
 pub mod search
 pub mod text

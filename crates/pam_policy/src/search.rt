@@ -15,3 +15,4 @@ pub use marks::Marks;
 pub use query::{MAX_TOGETHER, Query};
 pub use run::{Run, Step};
 pub use searching::search;
+pub(crate) use walking::rank;

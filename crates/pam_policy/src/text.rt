@@ -22,6 +22,7 @@ pub use codes::Codes;
 pub use ending::Ending;
 pub use error::{PolicyError, PolicyFault};
 pub use event::Event;
+pub(crate) use event::without_so;
 pub use list::{Events, MAX_TOGETHER};
 pub use policy::{MAX_POLICY_BYTES, MAX_RULES, Policy};
 pub use rule::Rule;

@@ -24,16 +24,16 @@ use Rattle.pam_policy.specs.search.Witness.{IsFound, IsGraphOf}
 use Rattle.pam_policy.proofs.SearchProofs.Asking.{does-ends, ends-does}
 
 -- the run through an open run, and the classes of its answers
-abbrev run_by : Runs → Assignment → RunValue
+abbrev pub run_by : Runs → Assignment → RunValue
 run_by runs answers = record { steps = map (step_by answers) (asked_by runs answers); decision = decision_of (final_state runs answers) }
 
 abbrev classes_by : Runs → Assignment → List StepValue
 classes_by runs answers = map (class_by answers) (asked_by runs answers)
 
-abbrev whole : List Step → ℕ → RunValue
+abbrev pub whole : List Step → ℕ → RunValue
 whole steps decision = record { steps = steps; decision = decision }
 
-abbrev after_first : Step → RunValue → RunValue
+abbrev pub after_first : Step → RunValue → RunValue
 after_first step run = record { steps = step ∷ run.steps; decision = run.decision }
 
 module _ (n : ℕ) where
@@ -104,7 +104,7 @@ module _ (n : ℕ) where
 
 -- THE RUNS OF A STACK
 
-run-stack : (items : Items) (answers : Assignment) → run_by (runs_of_stack items) answers ≡ run_of items answers
+pub run-stack : (items : Items) (answers : Assignment) → run_by (runs_of_stack items) answers ≡ run_of items answers
 run-stack items answers =
     ap (λ (asks : List Ask). whole (map (step_by answers) asks) (decision_of (final_state (runs_of_stack items) answers)))
     (asked_by-runs_of_stack items answers)

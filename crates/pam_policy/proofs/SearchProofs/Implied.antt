@@ -60,7 +60,7 @@ more-allowed less more items query run fewer f = record {
   is_run = f.is_run;
 }
 
-both-before : (steps others : List Step) → ComesBefore steps others → ComesBefore others steps → ⊥
+pub both-before : (steps others : List Step) → ComesBefore steps others → ComesBefore others steps → ⊥
 unfolding ComesBefore
 both-before [] others h k = h
 both-before (step ∷ steps) [] h k = h

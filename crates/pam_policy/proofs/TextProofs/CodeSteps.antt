@@ -27,6 +27,10 @@ pub two_codes : codes_where (λ c. c == 12 || is_in c (0 ∷ [])) ≡ 0 ∷ 12 �
 unfolding all_codes
 two_codes = refl
 
+pub three_codes : codes_where (λ c. c == 25 || is_in c (0 ∷ 12 ∷ [])) ≡ 0 ∷ 12 ∷ 25 ∷ []
+unfolding all_codes
+three_codes = refl
+
 -- ---- one item
 
 module _ (set item : List ℕ) where

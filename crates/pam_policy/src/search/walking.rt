@@ -29,7 +29,7 @@ pub(crate) struct Choice {
 
 /// The place of an answer in the order in which they are shown: success, auth_err, perm_denied, user_unknown, authinfo_unavail,
 /// ignore, and then by number.
-fn rank(code: Code) -> u8
+pub(crate) fn rank(code: Code) -> u8
     ensures { result ≡ rank code }
 {
     match code.number() {

@@ -124,7 +124,8 @@ fn read_codes(bare: Option<Codes>, text: &[u8]) -> Result<Codes, PolicyFault>
     }
 }
 
-fn without_so(name: &[u8]) -> &[u8]
+/// The name of a module without `.so`, if it ends so.
+pub(crate) fn without_so(name: &[u8]) -> &[u8]
     ensures { result.now ≡ without_so name.now }
 {
     if name.ends_with(b".so") {

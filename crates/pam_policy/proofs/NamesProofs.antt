@@ -1,0 +1,5 @@
+pub mod Files
+pub mod Parts
+pub mod Rests
+pub mod Saying
+pub mod Silence

@@ -1,0 +1,16 @@
+pub mod Asks
+pub mod Choosing
+pub mod Few
+pub mod Happening
+pub mod Idle
+pub mod Judging
+pub mod Late
+pub mod Laws
+pub mod Lists
+pub mod Looking
+pub mod Marking
+pub mod Order
+pub mod Parts
+pub mod Read
+pub mod Stepping
+pub mod TooMany
