@@ -123,7 +123,7 @@ set -g __pamcheck_codes success open_err symbol_err service_err system_err buf_e
 set -g __pamcheck_numbers E1 E2 E3 E4 E5 E6 E7 E8 E9 E10 E11 E12 E13 E14 E15 E16 E17 E18 E19 DE1 TE1 TE2 TE3 TE4 TE5 TE6 TE7 \
     TE8 TE9 TE10 TE11 TE12 TE13 TE14 TE15 TE16 C1 C2 C3 C4 M1 M2 M4 U1 U2 U3 U4 U5 U6 U7 U8 U9 U10 U11 \
     U12 U13 U14 U15 U16 U17 U18 U19 U20 V1 V2 L1 L2 L3 L4 L5 L6 L7 L8 L9 L10 A1 A2 A3 A4 A5 A6 A7 T1 T2 \
-    T3 T4 S1 S2 S3 S4 S5 S6 S7 S8 S9 S10 S11 S12 S13 S14 S15 S16 S17 S18 S19 S22 S23 S25 S26
+    T3 T4 S1 S2 S3 S4 S5 S6 S7 S8 S9 S10 S11 S12 S13 S14 S15 S16 S17 S18 S19 S22 S23 S25 S26 S27
 # The options without a value: those of each command, and those of one.
 set -g __pamcheck_flags --json 'compare --conf' 'compare --root'
 
@@ -137,7 +137,7 @@ complete -c pamcheck -n '__pamcheck_no_command' -a paths -d 'Lists the paths thr
 complete -c pamcheck -n '__pamcheck_no_command' -a outcomes \
     -d 'Counts the paths through a stack by their decisions'
 complete -c pamcheck -n '__pamcheck_no_command' -a graph -d 'Draws the graph of a stack'
-complete -c pamcheck -n '__pamcheck_no_command' -a access -d 'Looks a login up in an access table'
+complete -c pamcheck -n '__pamcheck_no_command' -a access -d 'Looks a login up in access tables'
 complete -c pamcheck -n '__pamcheck_no_command' -a time -d 'Looks a login up in a time table'
 complete -c pamcheck -n '__pamcheck_no_command' -a explain \
     -d 'Explains a fault or finding, and how to mend it'
@@ -174,7 +174,7 @@ complete -c pamcheck -n '__pamcheck_in check show decide paths outcomes graph' -
 complete -c pamcheck -n '__pamcheck_in check compare paths outcomes graph' -l modules -x -a '(__fish_complete_directories)' \
     -d 'A folder of modules, in which each module is looked for; may be repeated'
 complete -c pamcheck -n '__pamcheck_in check' -l access -r -F \
-    -d 'The access table of pam_access.so, in place of that of the root'
+    -d 'An access table of pam_access.so, in place of those of the root; may be repeated'
 complete -c pamcheck -n '__pamcheck_in check' -l time -r -F \
     -d 'The time table of pam_time.so, in place of that of the root'
 complete -c pamcheck -n '__pamcheck_in check paths outcomes graph access' -l group -r -F \
@@ -211,7 +211,7 @@ complete -c pamcheck -n '__pamcheck_in paths outcomes graph access' -l rhost -x 
 complete -c pamcheck -n '__pamcheck_in paths outcomes graph access time' -l tty -x \
     -d 'The terminal'
 complete -c pamcheck -n '__pamcheck_in paths outcomes graph' -l access -r -F \
-    -d 'The access table of pam_access.so; needs --user'
+    -d 'An access table of pam_access.so; needs --user; may be repeated'
 complete -c pamcheck -n '__pamcheck_in paths outcomes graph' -l time -r -F \
     -d 'The time table of pam_time.so; needs --user and a moment'
 complete -c pamcheck -n '__pamcheck_in paths outcomes graph' -l set -x -a '(__pamcheck_settings)' \
@@ -226,7 +226,8 @@ complete -c pamcheck -n '__pamcheck_in outcomes graph' -l answers -x -a 'any pos
     -d 'any or possible: what modules can return of which nothing else tells; possible if left out'
 complete -c pamcheck -n '__pamcheck_in graph' -l format -x -a 'dot mermaid svg' \
     -d 'dot (for Graphviz), mermaid or svg; dot if left out'
-complete -c pamcheck -n '__pamcheck_in access' -l access -r -F -d 'The table'
+complete -c pamcheck -n '__pamcheck_in access' -l access -r -F \
+    -d 'A table; may be repeated: they are read in turn until a line matches'
 complete -c pamcheck -n '__pamcheck_in access time' -l user -x -a '(__fish_complete_users)' \
     -d 'The user'
 complete -c pamcheck -n '__pamcheck_in time' -l time -r -F -d 'The table'

@@ -9,9 +9,9 @@ from pathlib import Path
 
 # The forms of arguments that are words, and those that are options with a value.
 WORDS = {"Positional", "OptionalPositional", "Repeated"}
-OPTIONS = {"Optional", "RepeatedOption", "Required", "Number"}
+OPTIONS = {"Optional", "RepeatedOption", "Required", "RequiredRepeated", "Number"}
 FLAG = "Flag"
-REPEATED = {"Repeated", "RepeatedOption"}
+REPEATED = {"Repeated", "RepeatedOption", "RequiredRepeated"}
 
 Command = namedtuple("Command", "name about rows")
 Words = namedtuple("Words", "commands codes numbers")

@@ -8,6 +8,7 @@ import threading
 from hostile.running import Answer, agrees, difference
 from model import plain
 from model.faults import Fault
+from model.sources import Outside
 
 OTHER = b"auth required pam_deny.so\n"
 OLD = {"login": b"auth required pam_unix.so\n" * 40 + b"auth requird a.so\n", "common": OTHER, "other": OTHER}
@@ -78,22 +79,24 @@ class Changing:
         self.thread.join()
 
 
-def tree_of(data):
+def tree_of(change, data):
     """The files of a moment."""
+    if change is linked:
+        data = Outside(data)
     folder = {name: text for name, text in {**OLD, "login": data}.items() if text is not None}
     return {"r": {"etc": {"pam.d": folder}}, "e": OLD}
 
 
 def run_words(program, change, texts, words):
     """How many runs of these words there were, while the file changes."""
-    allowed = [Answer(*plain.answer(words, tree_of(text))) for text in texts]
+    allowed = [Answer(*plain.answer(words, tree_of(change, text))) for text in texts]
     if None in texts:
         allowed.append(Answer(b"", GONE.line(), GONE.status()))
     with Changing(change, FOLDER + "/login", texts):
         answers = [program.run(words) for _ in range(RUNS)]
     for got in answers:
         if not any(agrees(expected, got) for expected in allowed):
-            raise difference(words, tree_of(texts[0]), allowed[0], got)
+            raise difference(words, tree_of(change, texts[0]), allowed[0], got)
     return RUNS
 
 
@@ -102,7 +105,7 @@ def run(program):
     runs = 0
     for change, texts in CHANGES:
         program.hold({})
-        tree = tree_of(OLD["login"])
+        tree = tree_of(replaced, OLD["login"])
         tree["r"]["etc"].update(first=OLD["login"], second=NEW)
         program.hold(tree)
         change(FOLDER + "/login", texts[0])

@@ -4,6 +4,7 @@ No answer is compared with the plain reading here, so a mistake that both share 
 For a service and a kind of each host, `show`, `outcomes`, `paths` with its filters and pages, `decide`, `graph` and `check` are
 compared as text and as JSON, and `compare` is given the host twice."""
 import json
+import pathlib
 import re
 
 from drawn import files, hosts
@@ -163,11 +164,17 @@ def refuses_arguments(findings, kind):
     return any(f["number"] in ("S15", "S19") and "so it always fails" in f["sentence"] and kind in f["types"] for f in findings)
 
 
+def is_included(service):
+    """Whether a file of the folder may include that of the service, which is then none that a program asks for where `other` answers."""
+    words = re.compile(rb"(?:include|substack)\s+\S*" + re.escape(service.encode()), re.IGNORECASE)
+    return any(words.search(file.read_bytes()) for file in pathlib.Path("d").iterdir() if file.is_file())
+
+
 def compare_with_check(findings, service, kind, modules, outcomes):
     """A stack that no possible answers let succeed is found to let nobody in, unless it is meant to deny, and no other stack is."""
-    is_meant = all(name_of(module["path"]) in GUARDS for module in modules)
+    is_meant = all(name_of(module["path"]) in GUARDS for module in modules) or name_of(modules[0]["path"]) == "pam_deny.so"
     is_shut = all(found["decision"] != "success" for found in outcomes)
-    if not is_meant and (is_shut or not refuses_arguments(findings, kind)):
+    if not is_meant and not is_included(service) and (is_shut or not refuses_arguments(findings, kind)):
         same("S1 where nothing decides success", is_shut, has(findings, "S1", service, kind))
 
 

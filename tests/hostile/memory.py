@@ -93,6 +93,7 @@ ASKED = [
     ([*PATHS, *ACCESS_TABLE, *TIME_TABLE], PAGES),
     ([*PATHS, *RETURNS_FILE], TABLE_PAGES),
     ([*ACCOUNT, *ACCESS_TABLE], TABLE_PAGES),
+    ([*ACCOUNT, *ACCESS_TABLE, "--access", "access"], TABLE_PAGES),
     ([*ACCOUNT, "--user", "alice", *TIME_TABLE], TABLE_PAGES),
     ([*ACCOUNT, *ACCESS_TABLE, *TIME_TABLE, *RETURNS_FILE], TABLE_PAGES),
     ([*PATHS, "--decision", "success", "--before", "12.0"], GRAPHS),
@@ -120,6 +121,7 @@ ASKED = [
     (["decide", "login", "auth", *["success"] * 3, "--dir", "stack", "--json"], STACKS),
     (["outcomes", "login", "account", "--dir", "stack", "--json", *ACCESS_TABLE, *RETURNS_FILE], TABLE_OUTCOMES),
     (["access", "login", *ACCESS_TABLE, "--rhost", "10.1.2.3", "--json"], TABLES),
+    (["access", "login", *ACCESS_TABLE, "--access", "access", "--rhost", "10.1.2.3"], TABLES),
     (["time", "login", *TIME_TABLE, "--user", "alice", "--json"], TABLES),
     (["compare", "new", "old", "--json", *RETURNS_FILE], TABLE_COMPARES),
     # The service is put into lower case, and fitted; then a release reads one file, and its rules are kept.

@@ -179,6 +179,29 @@ def tables(out):
     yield Case(login, {"etc/security": "../../out/tables"}, login)
 
 
+def access_tables(out):
+    """The access tables beside that of a system: regular files of a folder, by their names, and links to such."""
+    files = {"etc/pam.d/login": INSIDE, "etc/security/access.conf": b"+:root:ALL\n"}
+    folder = "etc/security/access.d"
+    faulty = {"/10-x.conf": b"# in the second table\n\nfault\n", "/2.conf": b"fault\n", "/B.conf": b"+:root:ALL\nfault\n", "/b.conf": b""}
+    no_tables = {"/.c.conf": b"fault\n", "/.conf": b"fault\n", "/conf": b"fault\n", "/x.conf.bak": b"fault\n", "/y.CONF": b"fault\n"}
+    in_folder = {folder + name: data for name, data in faulty.items()}
+    beside = {folder + name: data for name, data in no_tables.items()}
+    for seen in ({**files, **in_folder}, {"etc/pam.d/login": INSIDE, **in_folder}, {**files, folder + "/": None}, {**files, folder: b"fault\n"}):
+        yield Case(seen, {}, seen)
+    yield Case({**files, **in_folder, **beside, folder + "/d.conf/x.conf": b"fault\n"}, {}, {**files, **in_folder})
+    yield Case({**files, **in_folder}, {folder + "/a.conf": "gone", folder + "/c.conf": "c.conf", folder + "/d.conf": "../../pam.d"},
+               {**files, **in_folder})
+    more = {"/n.conf": b"fault\n"}
+    for target, home in (("/" + out + "/tables", out + "/tables"), ("../../../../out/tables", "out/tables")):
+        yield Case({**files, **in_folder, **below(home, {"n.conf": b"fault\n"})}, {folder + "/n.conf": target + "/n.conf"},
+                   {**files, **in_folder, **{folder + name: data for name, data in more.items()}})
+        yield Case({**files, **in_folder}, {folder + "/n.conf": target + "/access.conf"}, {**files, **in_folder})
+        yield Case({**files, **below(home, {"n.conf": b"fault\n", "group": b"fault\n"})}, {folder: target[3 * target.startswith("."):]},
+                   {**files, folder + "/n.conf": b"fault\n"})
+    yield Case(files, {folder: "access.d"}, files)
+
+
 def rows(out):
     """As many links as are followed, and one more; those of the folder count too."""
     su, seen = {"etc/pam.d/su": OTHER}, {"etc/pam.d/su": OTHER, "etc/pam.d/login": INSIDE}
@@ -190,7 +213,7 @@ def rows(out):
                    seen if links < MOST_LINKS else su)
 
 
-ROOTS = [entries, nowhere, folders, single, modules, tables, rows]
+ROOTS = [entries, nowhere, folders, single, modules, tables, access_tables, rows]
 
 
 # The runs
@@ -249,6 +272,9 @@ def unread(program):
             ({**su, "vendor": b""}, {"usr/lib/pam.d": "/vendor"}, "show", "root/usr/lib/pam.d"),
             ({**su, "etc/security": b""}, {}, "check", "root/etc/security/access.conf"),
             ({**su, "folder/": None}, {"etc/group": "/folder"}, "check", "root/etc/group"),
+            ({**su, "folder/": None}, {"etc/security/access.conf": "/folder"}, "check", "root/etc/security/access.conf"),
+            (su, {"etc/security/access.d/x.conf": b"not\xfftext"}, "check", "root/etc/security/access.d/x.conf"),
+            ({**su, "etc/security/access.d/\udcff": b""}, {}, "check", "root/etc/security/access.d"),
             ({**su, "usr": b""}, {}, "check", "root/usr/lib/pam.d")):
         make("root", files, links)
         words = [command, *["su", "auth"][:2 * (command == "show")], "--root", "root"]
@@ -279,7 +305,8 @@ def refused(program):
         return 0
     absolute = INSIDE + b"auth required /mods/pam_own.so\n"
     make("root", {"out/login": absolute, "out/security/pam_own.so": b"", "out/group": b"adm::4:alice\n"},
-         {"etc/pam.d": "../pam.d", "pam.d/login": "/out/login", "lib": "/out", "mods": "lib/security", "etc/group": "../../out/group"})
+         {"etc/pam.d": "../pam.d", "pam.d/login": "/out/login", "lib": "/out", "mods": "lib/security", "etc/group": "../../out/group",
+          "etc/security/access.d/1.conf": "/out/group"})
     words, runs = ["check", "--root", "root"], 0
     whole = program.run(words)
     for later in (0, 1):

@@ -17,6 +17,8 @@ SAID = {"S15": (b" knows no argument ", b"", b"mend it, or remove it"),
         "S17": (b" does not read ", b" in this kind", b"remove it"),
         "S18": (b" cannot use the value of ", b"", b"write one that its manual page names"),
         "S23": (b" stores passwords by a weak hash with ", b"", b"write yescrypt in its place")}
+# Where the argument is not told.
+UNTOLD = b"an argument is not one that the module takes; mend it, or remove it"
 NAMES = {"S15": "UnknownArgument", "S16": "LongerWord", "S17": "ArgumentOfOtherKind", "S18": "BadValue", "S19": "BadArguments", "S23": "WeakHash"}
 # What the arguments of a rule lack as a whole.
 LACKS = [b"pam_exec.so has no program to run, so it always fails; name one after its options",

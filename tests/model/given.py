@@ -10,6 +10,8 @@ CLASSES = (b"checks", b"ignores", b"passes", b"fails")
 MOST_ARGUMENTS = 2
 TABLES = (("group", b"--group", b"etc/group"), ("access", b"--access", b"etc/security/access.conf"),
           ("time", b"--time", b"etc/security/time.conf"))
+# The folder of the access tables that come after that of a root.
+ACCESS_FOLDER = b"etc/security/access.d"
 LIBRARIES = (b"lib", b"lib64", b"usr/lib", b"usr/lib64")
 
 
@@ -81,14 +83,33 @@ def key_of_line(number, line):
 # Tables
 
 def tables(options, tree, of_root=("group", "access", "time")):
-    """The path and the bytes of each table that is named, or else of that of the root, if it is one of these and is there."""
+    """The path and the bytes of each table that is named, or else of those of the root, if they are some of these and are there. They have
+    the names that faults give them: the access tables are `access`, `access[2]` and so on."""
     root = options.get(b"--root")
     given = {}
     for table, option, own in TABLES:
-        path = options[option] if option in options else root and table in of_root and joined(root, own)
-        if path and (option in options or found(tree, path) is not None):
-            given[table] = path, read(tree, path)
+        paths = tables_of_root(tree, root, table, own) if root is not None and table in of_root else []
+        if option in options:
+            paths = options[option] if isinstance(options[option], list) else [options[option]]
+        for number, path in enumerate(paths, 1):
+            given[table if number == 1 else "%s[%d]" % (table, number)] = path, read(tree, path)
     return given
+
+
+def named_access(given):
+    """The name and the bytes of each access table."""
+    return [(table.encode(), data) for table, (_, data) in given.items() if table.startswith("access")]
+
+
+def tables_of_root(tree, root, table, own):
+    """The paths of the tables of a root that are there."""
+    paths = [joined(root, own)] if found(tree, joined(root, own)) is not None else []
+    folder = joined(root, ACCESS_FOLDER)
+    if table == "access" and isinstance(found(tree, folder), dict):
+        entries = {os.fsencode(name): data for name, data in found(tree, folder).items()}
+        paths += [joined(folder, name) for name, data in sorted(entries.items())
+                  if isinstance(data, bytes) and name.endswith(b".conf") and not name.startswith(b".")]
+    return paths
 
 
 # Modules

@@ -53,9 +53,10 @@ def decision(code):
     return line("decision", code=text(code))
 
 
-def login(kind, granted, at):
-    """What a table says of a login, and the line that decides."""
-    return line(kind, granted=bool(granted), line=at)
+def login(kind, granted, at, table=None):
+    """What tables say of a login, the line that decides, and the name of its table where there are several."""
+    of_table = {} if table is None else {"table": text(table)}
+    return line(kind, granted=bool(granted), line=at, **of_table)
 
 
 def steps(taken, modules):

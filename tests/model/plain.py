@@ -31,7 +31,7 @@ OPTIONS = {
     b"version": b"",
 }
 OF_PATHS = (b"paths", b"outcomes", b"graph")
-REPEATED = (b"--modules", b"--with", b"--set")
+REPEATED = (b"--access", b"--modules", b"--with", b"--set")
 FLAGS = {b"compare": [b"--conf", b"--root", b"--json"],
          **dict.fromkeys([b"check", b"show", b"decide", b"paths", b"outcomes", b"access", b"time"], [b"--json"])}
 WITH_SOURCE = [name for name, options in OPTIONS.items() if options.startswith(SOURCES)]
@@ -193,14 +193,15 @@ class Request:
             text, status = self.comparison(tree).whole()
             return b"".join(map(json_lines.compared, text.splitlines())) if self.is_json() else text, status
         source = sources.Source(self.options, tree, self.candidates) if self.command in WITH_SOURCE else None
-        self.tables, self.there = {}, None
+        self.tables, self.access_tables, self.there = {}, [], None
         if self.command in OF_PATHS:
             self.learn(source, tree)
-        for option in (b"--group", b"--access", b"--time", b"--facts", b"--returns"):
+        for option in (b"--group", b"--time", b"--facts", b"--returns"):
             is_asked = option != b"--facts" or self.command in OF_PATHS and self.answers == b"possible"
             if option in self.options and is_asked and self.command != b"check":
                 self.tables[option] = read(tree, self.options[option])
         if self.command == b"access":
+            self.access_tables = plain_given.named_access(plain_given.tables(self.options, tree))
             return self.access()
         if self.command == b"time":
             moment = self.moment()
@@ -248,8 +249,9 @@ class Request:
         folders = self.folders(tree)
         self.there = plain_given.there(self.options.get(b"--root"), folders, source.files, lambda path: found(tree, path))
         told = (["group", "access"] + ["time"] * (self.moment_words() != [])) * bool(self.options.get(b"--user"))
-        options = {table: option for table, option, _ in plain_given.TABLES}
-        self.tables = {options[table]: data for table, (_, data) in plain_given.tables(self.options, tree, told).items()}
+        given = plain_given.tables(self.options, tree, told)
+        self.tables = {option: given[table][1] for table, option, _ in plain_given.TABLES if table in given}
+        self.access_tables = plain_given.named_access(given)
 
     def check(self, source, tree):
         """What is wrong with a host."""
@@ -263,7 +265,7 @@ class Request:
         facts = plain_given.facts(data[b"--facts"])
         accepted = plain_given.accepted(data[b"--accept"])
         there = plain_given.there(self.options.get(b"--root"), folders, source.files, lambda path: found(tree, path))
-        host = plain_host.Host(form, files, self.services, there, facts, source.of_vendor)
+        host = plain_host.Host(form, files, self.services, there, facts, source.of_vendor, source.outside)
         accept = self.options.get(b"--accept", b""), accepted
         status = plain_host.status(plain_host.levels_of(*plain_host.unaccepted(host, accept, given)), self.options.get(b"--fail-on", b"warning"))
         if self.is_json():
@@ -309,11 +311,13 @@ class Request:
 
     def access(self):
         groups = tables.Groups(self.tables.get(b"--group", b""))
-        table = tables.AccessTable(self.tables[b"--access"], self.arguments[1:])
-        granted, line = table.decide(self.login(), groups)
+        granted, line, position = tables.answer_of_tables(self.access_tables, self.arguments[1:], self.login(), groups)
+        names = self.options[b"--access"]
+        table = names[position] if len(names) > 1 and position is not None else None
         if self.is_json():
-            return json_lines.login("access", granted, line), 0 if granted else 1
+            return json_lines.login("access", granted, line, table), 0 if granted else 1
         place = b"no line" if line is None else b"line %d" % line
+        place += b"" if table is None else b" of " + plain_host.shown(table)
         return b"%s %s\n" % (b"granted" if granted else b"denied", place), 0 if granted else 1
 
     def decide(self, items, modules):
@@ -339,7 +343,7 @@ class Request:
     def known(self, modules):
         """The codes that each module may answer."""
         moment = self.moment()
-        has_access, has_time = b"--access" in self.tables, b"--time" in self.tables
+        has_access, has_time = bool(self.access_tables), b"--time" in self.tables
         names = [module.path.rpartition(b"/")[2] for module in modules]
 
         def needs_access(name, arguments):
@@ -360,8 +364,7 @@ class Request:
             if needs_access(name, module.arguments):
                 arguments = tuple(module.arguments)
                 if arguments not in by_arguments:
-                    table = tables.AccessTable(self.tables[b"--access"], module.arguments)
-                    by_arguments[arguments] = table.decide(self.login(), groups)
+                    by_arguments[arguments] = tables.answer_of_tables(self.access_tables, arguments, self.login(), groups)
                 answers = by_arguments[arguments]
             elif needs_time(name, module.arguments):
                 answers = tables.TimeTable(self.tables[b"--time"]).decide(self.login(), moment)

@@ -1,6 +1,6 @@
 """The files of a source, read plainly from `docs/SPECIFICATION.md`: a folder, two of them, one file, or a system.
 
-What is at hand is a tree: a dictionary from names to bytes, or to a dictionary for a folder."""
+What is at hand is a tree: a dictionary from names to bytes, or to a dictionary for a folder. A link out of its folder is marked."""
 
 from model import stacks
 from model.faults import Fault
@@ -28,9 +28,13 @@ def candidates(options, words=()):
     return given
 
 
+class Outside(bytes):
+    """The bytes of a file to which a link leads that leads out of its folder."""
+
+
 class Source:
     """The files of the source that the options name, the paths under which they are read, where `None` has that of the whole, and the
-    names of those that only the second folder has."""
+    names of those that only the second folder has, and of those that are links which lead out of a folder."""
 
     def __init__(self, options, tree, given=()):
         self.tree = tree
@@ -43,6 +47,8 @@ class Source:
             self.files = self.single(options[b"--conf"], read(tree, options[b"--conf"]))
         else:
             self.files = self.system(options[b"--root"])
+        self.outside = {name for name, data in self.files.files.items()
+                        if isinstance(data, Outside) and b"--dir" in options and name not in dict(given)}
 
     def folders(self, names):
         """The candidates, the files of a folder, and those of a second one, each of a name that those before it have not; an entry of the

@@ -10,10 +10,10 @@ use Rattle.std.specs.Ordering.{nat_cmp}
 use Rattle.std.specs.Str.{bytes_eq}
 use Rattle.pam_conf.specs.Files.{Named}
 use Rattle.pam_text.specs.Members.{Member}
-use Rattle.pam_cli.specs.Sources.{AddsNamed, IsHidden, IsKept, IsShown, IsThen, is_given}
+use Rattle.pam_cli.specs.Sources.{AddsNamed, AreInOrder, IsHidden, IsKept, IsShown, IsThen, is_given}
 use Rattle.pam_cli.specs.System.{PlaceText, Told, entry_at, shown}
 use Rattle.pam_cli.specs.System as system
-use Rattle.pam_cli.specs.inner.Sources.{AddsBefore, AddsEntry, AddsFile, AreInOrder, ReadsEntry}
+use Rattle.pam_cli.specs.inner.Sources.{AddsBefore, AddsEntry, AddsFile, ReadsEntry}
 use Rattle.pam_cli.specs.declared.reading.sources.SourceFiles.{SourceFiles}
 use Rattle.pam_cli.proofs.Added.{any-map, first_of_none, neither, second_of_none}
 use Rattle.pam_cli.proofs.Rising.{all_with, rising-with, without}

@@ -1,7 +1,10 @@
+mod AccessTables
 mod Added
 mod Candidates
 mod Entries
 mod Folders
 mod Fronts
+mod Links
+mod NamedTables
 mod Rising
 mod Sizes

@@ -8,7 +8,7 @@ use Rattle.std.specs.List.{AllByRecursion, list_any}
 use Rattle.std.specs.List.Sorted.{IsSortedByKey, IsStrictlySortedBy}
 use Rattle.std.specs.Ordering.{is_eq, is_lt, nat_cmp, ordering_reverse}
 use Rattle.std.specs.Str.{bytes_eq}
-use Rattle.pam_cli.specs.inner.Sources.{AreInOrder}
+use Rattle.pam_cli.specs.Sources.{AreInOrder}
 use Rattle.pam_cli.proofs.Added.{first_of_none, second_of_none}
 
 abbrev Name : Type 0

@@ -1,3 +1,5 @@
+pub mod AccessTables
+pub mod Links
 pub mod Reading
 pub mod Run
 pub mod Sources

@@ -22,6 +22,8 @@ use Rattle.pam_words.specs.declared.wanted.TableNames.{TableNames}
 use Rattle.pam_words.specs.declared.wanted.Task.{Task}
 use Rattle.pam_words.specs.declared.wanted.Task.TheVariants.{Check, Compare, Show, Decide, Access, Time, Paths, Outcomes, Graph}
 use Rattle.pam_words.specs.declared.wanted.CheckFiles.{CheckFiles}
+use Rattle.pam_cli.specs.Links.{AreLinks}
+use Rattle.pam_cli.specs.AccessTables.{AreAccess, AreContents}
 use Rattle.pam_cli.specs.Sources.{IsFrom, IsInSource, IsRead, IsUnread}
 use Rattle.pam_cli.specs.System.{PlaceText, Told, shown}
 use Rattle.pam_cli.specs.System as system
@@ -60,11 +62,11 @@ abbrev pub IsTable : Told → Bool → ConfSource → Text → Option Text → O
 IsTable told reads source own (Some name) table = MatchOption table ⊥ (IsNamedTable told name)
 IsTable told reads source own None table = IsOwnTable told reads source own table
 
--- THE TABLES: those that are named, and else those of the root that are there. The table of the root is read where a login is looked
--- up, the time table where its moment is looked up too
+-- THE TABLES: those that are named, and else those of the root that are there. Those of the root are read where a login is looked up,
+-- the time table where its moment is looked up too
 pub record AreTables (told : Told) (by_login by_moment : Bool) (source : ConfSource) (named : TableNames) (tables : TableFiles) : Type 0 where
   pub groups : IsTable told by_login source (codes "etc/group") (option_copied named.groups) tables.groups
-  pub access : IsTable told by_login source (codes "etc/security/access.conf") (option_copied named.access) tables.access
+  pub access : AreAccess told by_login source (map (λ s. s.now) named.access.items) tables.access
   pub time : IsTable told by_moment source (codes "etc/security/time.conf") (option_copied named.time) tables.time
 
 -- `check` reads them all
@@ -126,24 +128,31 @@ abbrev pub HasKnowledge : Told → List (Text × Text) → ConfSource → Knowle
 HasKnowledge told candidates source named given =
     HasFiles told candidates source given × HasKnownTables told source named given × HasModules source named.modules.items (there_given given)
 
--- the table of `access` and its group file
-abbrev pub IsAccess : Told → Text → Option Text → Inputs → Type 0
-IsAccess told table groups (inputs.Access bytes group) = told.file table bytes.items × IsFile told groups group
-IsAccess told table groups given = ⊤
+-- the tables of `access` and its group file
+abbrev pub IsAccess : Told → List Text → Option Text → Inputs → Type 0
+IsAccess told names groups (inputs.Access tables group) = AreContents told names tables × IsFile told groups group
+IsAccess told names groups given = ⊤
 
 -- the table of `time`
 abbrev pub IsTime : Told → Text → Inputs → Type 0
 IsTime told table (inputs.Time bytes) = told.file table bytes.items
 IsTime told table given = ⊤
 
+-- which files of `check` are links that lead out of their folder
+abbrev pub HasLinks : Told → List (Text × Text) → ConfSource → Inputs → Type 0
+HasLinks told candidates source (inputs.Host files paths given) =
+    AreLinks told candidates source files.entries given.vendor_start given.outside.items
+HasLinks told candidates source given = ⊤
+
 abbrev pub HasSource : Told → List (Text × Text) → Task → Inputs → Type 0
 HasSource told candidates (Check source services fail_on named) given =
     HasFiles told candidates source given × HasTables told source named given × HasOthers told named given
-    × HasModules source named.modules.items (there_given given)
+    × HasModules source named.modules.items (there_given given) × HasLinks told candidates source given
 HasSource told candidates (Compare old new service kind named) given = HasSides told old new named given
 HasSource told candidates (Show source kind release) given = HasFiles told candidates source given
 HasSource told candidates (Decide source kind answered) given = HasFiles told candidates source given
-HasSource told candidates (Access table groups login arguments) given = IsAccess told table.now (option_copied groups) given
+HasSource told candidates (Access tables groups login arguments) given =
+    IsAccess told (map (λ s. s.now) tables.items) (option_copied groups) given
 HasSource told candidates (Time table login moment) given = IsTime told table.now given
 HasSource told candidates (Paths source kind limit part filter knowledge) given = HasKnowledge told candidates source knowledge given
 HasSource told candidates (Outcomes source kind knowledge) given = HasKnowledge told candidates source knowledge given
@@ -163,7 +172,7 @@ IsNamed named name = named ≡ Some name
 -- one of the tables
 abbrev pub IsOfTables : TableNames → List ℕ → Type 0
 IsOfTables named name =
-    IsNamed (option_copied named.groups) name ⊎ IsNamed (option_copied named.access) name ⊎ IsNamed (option_copied named.time) name
+    IsNamed (option_copied named.groups) name ⊎ Member name (map (λ s. s.now) named.access.items) ⊎ IsNamed (option_copied named.time) name
 
 -- a name of the source, one of the folders of modules or of the tables, or the facts file or the returns file
 abbrev pub IsOfKnowledge : ConfSource → KnowledgeSource → List ℕ → Type 0
@@ -189,7 +198,7 @@ IsOfTask (Check source services fail_on named) name = IsInSource source name ⊎
 IsOfTask (Compare old new service kind named) name = IsOfCompare old new named name
 IsOfTask (Show source kind release) name = IsInSource source name
 IsOfTask (Decide source kind answered) name = IsInSource source name
-IsOfTask (Access table groups login arguments) name = IsNamed (option_copied groups) name ⊎ (name ≡ table.now)
+IsOfTask (Access tables groups login arguments) name = IsNamed (option_copied groups) name ⊎ Member name (map (λ s. s.now) tables.items)
 IsOfTask (Time table login moment) name = name ≡ table.now
 IsOfTask (Paths source kind limit part filter knowledge) name = IsOfKnowledge source knowledge name
 IsOfTask (Outcomes source kind knowledge) name = IsOfKnowledge source knowledge name

@@ -3,7 +3,7 @@ use Rattle.std.specs.Prelude.{◌≡◌, ◌⊎◌, ⊤, ℕ, Bool, true, false,
 use Rattle.std.specs.Cmp.Lexicographic.{slice_cmp}
 use Rattle.std.specs.List.{AllByRecursion, filter, list_any}
 use Rattle.std.specs.List.Sorted.{IsStrictlySortedBy}
-use Rattle.std.specs.Ordering.{nat_cmp}
+use Rattle.std.specs.Ordering.{is_lt, nat_cmp}
 use Rattle.std.specs.Str.{bytes_eq}
 use Rattle.clap.specs.Words.{Text}
 use Rattle.pam_conf.specs.Files.{Folder, Named}
@@ -21,6 +21,11 @@ use Rattle.pam_cli.specs.declared.system.Found.TheVariants as there
 -- a file of this name is among these
 abbrev pub is_given : Text → List Named → Bool
 is_given name files = list_any (λ f. bytes_eq name f.0) files
+
+-- no name comes before an earlier one, in byte order
+abbrev pub AreInOrder : List Text → Type 0
+AreInOrder [] = ⊤
+AreInOrder (name ∷ names) = AllByRecursion (λ later. is_lt (slice_cmp nat_cmp later name) ≡ false) names × AreInOrder names
 
 -- the first candidate of each name
 abbrev pub firsts_of : List (Text × Text) → List (Text × Text)

@@ -69,6 +69,8 @@ pub record Told : Type 1 where
   pub look : PlaceText → Found → Type 0
   -- the same, with the bytes of a regular file
   pub held : PlaceText → HeldText → Type 0
+  -- whether the entry of this folder with this name is a link that leads out of the folder
+  pub leads_out : Text → Text → Bool → Type 0
 
 -- of a system that may change at any time, nothing is known
 abbrev pub anything : Told
@@ -77,4 +79,5 @@ anything = record {
   entries = λ place names. ⊤;
   look = λ place there. ⊤;
   held = λ place held. ⊤;
+  leads_out = λ folder name out. ⊤;
 }

@@ -1,3 +1,4 @@
 -- What no public contract cites.
+pub mod AccessTables
 pub mod Reading
 pub mod Sources

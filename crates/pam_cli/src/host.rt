@@ -7,11 +7,13 @@ ghost use Rattle.std.specs.Ordering.{nat_cmp};
 ghost use Rattle.pam_cli.specs.System.{anything, front};
 
 mod inside;
+mod links;
 mod names;
 
 use crate::system::{Found, Held, Place, System};
 pub(crate) use inside::is_of_target;
 use inside::reached_below;
+use links::leads_out;
 use names::names_in;
 use pam_text::MAX_FILE_BYTES;
 use std::alloc::{AllocError, Global};
@@ -179,6 +181,18 @@ impl<R: Files + AllocGlobal + Clone + Drop> System for Host<'_, R> {
         match reached(self.rt, alloc, place)? {
             Some(path) => held_at(self.rt, alloc, path.as_path()),
             None => Ok(Held::Nothing),
+        }
+    }
+
+    fn leads_out(&self, alloc: Global, folder: &str, name: &[u8]) -> Result<bool, AllocError> {
+        // `std::path` cannot name an entry whose name is not UTF-8.
+        let Ok(name) = std::str::from_utf8(name) else {
+            return Ok(true);
+        };
+        match leads_out(self.rt, alloc, folder, name) {
+            Ok(out) => Ok(out),
+            Err(error) if error.kind() == ErrorKind::OutOfMemory => Err(AllocError),
+            Err(_) => Ok(true),
         }
     }
 }

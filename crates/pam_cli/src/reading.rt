@@ -8,17 +8,22 @@ ghost use Rattle.pam_cli.specs.inner.Reading.{IsCompareReading, IsOfSide, IsRigh
 ghost use Rattle.pam_cli.specs.Sources.{IsUnread};
 ghost use Rattle.pam_words.specs.Wanted.{candidate_view, facts_named};
 
+mod access;
 mod files;
+mod links;
 mod module_paths;
 mod modules;
 mod sources;
 mod tables;
 
 use crate::system::System;
+use access::named_access;
 use files::named_file;
+use links::links_outside;
 use modules::modules_there;
 use pam_conf::Files;
 use pam_report::{CheckInputs, InputError, Inputs, KnowledgeInputs, SideInputs};
+use pam_text::Texts;
 use pam_words::{
     Answers, Candidate, CheckFiles, CompareFiles, ConfSource, KnowledgeSource, Request, Task,
 };
@@ -62,22 +67,26 @@ fn optional_files<S: System>(
     Ok((first, second))
 }
 
-/// Looks for the modules of a configuration, and reads the tables of its system or those that are named, and the facts file and the
-/// accept file that are named.
+/// Looks for links and for the modules of a configuration, and reads the tables of its system or those that are named, and the facts
+/// file and the accept file that are named.
 fn given_inputs<S: System>(
     system: &S,
     alloc: Global,
     source: ConfSource<'_>,
+    candidates: &[Candidate<'_>],
     named: &CheckFiles<'_>,
     found: &Configuration,
 ) -> Result<CheckInputs, InputError>
-    ensures { IsGivenReading (S.told system.now) found.now.vendor_start source.entry named.now result }
+    ensures { IsGivenReading (S.told system.now) (map candidate_view candidates.now) found.now.files.entries found.now.vendor_start
+        source.entry named.now result }
 {
+    let outside = links_outside(system, alloc, source, candidates, found)?;
     let there = modules_there(system, alloc, source, &named.modules, &found.files)?;
-    let tables = table_files(system, alloc, source, named.tables, ALL_TABLES)?;
+    let tables = table_files(system, alloc, source, &named.tables, ALL_TABLES)?;
     let others = optional_files(system, alloc, named.facts, named.accept)?;
     Ok(CheckInputs {
         vendor_start: found.vendor_start,
+        outside,
         there,
         tables,
         facts: others.0,
@@ -96,7 +105,7 @@ fn check_inputs<S: System>(
     ensures { IsCheckReading (S.told system.now) (map candidate_view candidates.now) source.entry named.now result }
 {
     let found = source_files(system, alloc, source, candidates)?;
-    let given = given_inputs(system, alloc, source, named, &found)?;
+    let given = given_inputs(system, alloc, source, candidates, named, &found)?;
     Ok(Inputs::Host {
         files: found.files,
         paths: found.paths,
@@ -139,18 +148,18 @@ fn compare_inputs<S: System>(
     })
 }
 
-/// Reads the group file, if one is named, then the access table.
+/// Reads the group file, if one is named, then the access tables.
 fn access_inputs<S: System>(
     system: &S,
     alloc: Global,
-    table: &str,
+    names: &[&str],
     groups: Option<&str>,
 ) -> Result<Inputs, InputError>
-    ensures { IsAccessReading (S.told system.now) table.entry groups.entry result }
+    ensures { IsAccessReading (S.told system.now) names.now groups.entry result }
 {
     let groups = optional_file(system, alloc, groups)?;
-    let table = named_file(system, alloc, table)?;
-    Ok(Inputs::Access { table, groups })
+    let tables = named_access(system, alloc, names)?.contents;
+    Ok(Inputs::Access { tables, groups })
 }
 
 /// What of the tables of a system is looked up for the answers of modules: a login if its user is given, and its moment if that is given
@@ -195,7 +204,7 @@ fn known_inputs<S: System>(
     ensures { IsKnownReading (S.told system.now) source.entry named.now result }
 {
     let there = modules_there(system, alloc, source, &named.modules, files)?;
-    let tables = table_files(system, alloc, source, named.tables, looked_up(named))?;
+    let tables = table_files(system, alloc, source, &named.tables, looked_up(named))?;
     let others = possible_files(system, alloc, named.answers, named.returns)?;
     Ok(KnowledgeInputs {
         there,
@@ -220,7 +229,7 @@ fn knowledge_inputs<S: System>(
     Ok(Inputs::Paths { files, given })
 }
 
-/// Reads the files of a request: the configuration, the folders of modules, the group file, the access table, the time table, and then
+/// Reads the files of a request: the configuration, the folders of modules, the group file, the access tables, the time table, and then
 /// the other files.
 pub(crate) fn inputs_of<S: System>(
     system: &S,
@@ -243,7 +252,7 @@ pub(crate) fn inputs_of<S: System>(
         Task::Show { source, .. } | Task::Decide { source, .. } => Ok(Inputs::Stack(
             source_files(system, alloc, *source, candidates)?.files,
         )),
-        Task::Access { table, groups, .. } => access_inputs(system, alloc, table, *groups),
+        Task::Access { tables, groups, .. } => access_inputs(system, alloc, tables, *groups),
         Task::Time { table, .. } => Ok(Inputs::Time {
             table: named_file(system, alloc, table)?,
         }),

@@ -68,6 +68,11 @@ pub trait System {
     /// Looks at a place, and reads what is there if it is a regular file.
     fn held(&self, alloc: Global, place: Place<'_>) -> io::Result<Held>
         ensures { IfOk result (λ held. (told self.now).held (place_view place.entry) (held_view held)) };
+
+    /// Whether the entry of a folder with this name is a link that leads out of it: one that ends, after all links are followed, at
+    /// what is no entry of this very folder. A link whose end cannot be found counts as one.
+    fn leads_out(&self, alloc: Global, folder: &str, name: &[u8]) -> Result<bool, AllocError>
+        ensures { IfOk result (λ out. (told self.now).leads_out folder.now name.now out) };
 }
 
 impl<'a> Place<'a> {

@@ -1,6 +1,7 @@
 pub mod Accounts
 pub mod CountLemmas
 pub mod DepthLemmas
+pub mod EndSteps
 pub mod FileFaults
 pub mod FileLemmas
 pub mod KindLemmas

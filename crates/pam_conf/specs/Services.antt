@@ -24,15 +24,17 @@ abbrev pub has_text : List ℕ → List ℕ → Bool
 has_text text [] = false
 has_text text (byte ∷ name) = begins (byte ∷ name) text || has_text text name
 
+-- the suffixes of the names of copies
+unfoldable pub left_ends : List (List ℕ)
+left_ends =
+    codes "~" ∷ codes ".bak" ∷ codes ".old" ∷ codes ".orig" ∷ codes ".save" ∷ codes ".tmp" ∷ codes ".swp" ∷ codes ".swo"
+    ∷ codes ".rpmnew" ∷ codes ".rpmsave" ∷ codes ".rpmorig" ∷ codes ".pacnew" ∷ codes ".pacsave"
+    ∷ codes ".ucf-dist" ∷ codes ".ucf-old" ∷ codes ".ucf-new" ∷ codes ".pam-old" ∷ codes ".pam-new" ∷ codes ".distrib" ∷ []
+
 -- S11: the name of a copy that an editor or a package left
 abbrev pub is_left_over : List ℕ → Bool
 is_left_over name =
-    begins name (codes ".") || ends name (codes "~") || begins name (codes "#") && ends name (codes "#")
-    || ends name (codes ".bak") || ends name (codes ".old") || ends name (codes ".orig") || ends name (codes ".save")
-    || ends name (codes ".tmp") || ends name (codes ".swp") || ends name (codes ".swo")
-    || ends name (codes ".rpmnew") || ends name (codes ".rpmsave") || ends name (codes ".rpmorig")
-    || ends name (codes ".pacnew") || ends name (codes ".pacsave") || ends name (codes ".ucf-dist") || ends name (codes ".ucf-old")
-    || has_text (codes ".dpkg-") name
+    begins name (codes ".") || begins name (codes "#") && ends name (codes "#") || has_text (codes ".dpkg-") name || list_any (ends name) left_ends
 
 -- a file of a folder is a service
 abbrev pub is_service : List ℕ → Bool

@@ -1,8 +1,8 @@
 //! Which names of files are services.
 
-ghost use Rattle.std.specs.Prelude.{◌≡◌};
-ghost use Rattle.std.specs.List.{starts_with};
-ghost use Rattle.pam_conf.specs.Services.{has_capital, has_text, is_left_over, is_service};
+ghost use Rattle.std.specs.Prelude.{◌≡◌, map};
+ghost use Rattle.std.specs.List.{list_any, starts_with};
+ghost use Rattle.pam_conf.specs.Services.{ends, has_capital, has_text, is_left_over, is_service, left_ends};
 
 /// Whether a name has a capital letter.
 pub fn has_capital(name: &[u8]) -> bool
@@ -23,28 +23,57 @@ fn has_text(text: &[u8], name: &[u8]) -> bool
     false
 }
 
+/// The suffixes of copies that editors and packages leave.
+static LEFT_ENDS: [&[u8]; 19] = [
+    b"~",
+    b".bak",
+    b".old",
+    b".orig",
+    b".save",
+    b".tmp",
+    b".swp",
+    b".swo",
+    b".rpmnew",
+    b".rpmsave",
+    b".rpmorig",
+    b".pacnew",
+    b".pacsave",
+    b".ucf-dist",
+    b".ucf-old",
+    b".ucf-new",
+    b".pam-old",
+    b".pam-new",
+    b".distrib",
+];
+
+#[tactic(auto, unfolding(crate::specs::Services::left_ends))]
+fn left_ends() -> &'static [&'static [u8]]
+    ensures { map (λ end. end.now) result.now ≡ left_ends }
+{
+    &LEFT_ENDS
+}
+
+/// Whether a name has one of these suffixes.
+fn has_end(texts: &[&[u8]], name: &[u8]) -> bool
+    ensures { result ≡ list_any (λ end. ends name.now end.now) texts.now }
+{
+    texts.iter().any(|end| name.ends_with(end))
+}
+
+fn has_left_end(name: &[u8]) -> bool
+    ensures { result ≡ list_any (ends name.now) left_ends }
+{
+    has_end(left_ends(), name)
+}
+
 /// Whether a name is that of a copy which an editor or a package left.
 pub fn is_left_over(name: &[u8]) -> bool
     ensures { result ≡ is_left_over name.now }
 {
     name.starts_with(b".")
-        || name.ends_with(b"~")
         || name.starts_with(b"#") && name.ends_with(b"#")
-        || name.ends_with(b".bak")
-        || name.ends_with(b".old")
-        || name.ends_with(b".orig")
-        || name.ends_with(b".save")
-        || name.ends_with(b".tmp")
-        || name.ends_with(b".swp")
-        || name.ends_with(b".swo")
-        || name.ends_with(b".rpmnew")
-        || name.ends_with(b".rpmsave")
-        || name.ends_with(b".rpmorig")
-        || name.ends_with(b".pacnew")
-        || name.ends_with(b".pacsave")
-        || name.ends_with(b".ucf-dist")
-        || name.ends_with(b".ucf-old")
         || has_text(b".dpkg-", name)
+        || has_left_end(name)
 }
 
 /// Whether a file of a folder is a service.

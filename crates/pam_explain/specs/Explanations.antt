@@ -4,6 +4,7 @@ use Rattle.std.specs.Char.{to_ascii_lowercase}
 use Rattle.pam_explain.specs.Explanation.{Explanation}
 use Rattle.pam_explain.specs.Arguments.{of_arguments}
 use Rattle.pam_explain.specs.Hosts.{of_hosts}
+use Rattle.pam_explain.specs.Links.{of_links}
 use Rattle.pam_explain.specs.Modules.{of_modules}
 use Rattle.pam_explain.specs.Named.{of_named}
 use Rattle.pam_explain.specs.OldTables.{of_old_tables}
@@ -16,7 +17,9 @@ use Rattle.pam_explain.specs.Words.{of_words}
 
 -- in the order of the numbers
 unfoldable pub families : List (List Explanation)
-families = of_rules ∷ of_stacks ∷ of_tables ∷ of_paths ∷ of_words ∷ of_named ∷ of_released ∷ of_old_tables ∷ of_hosts ∷ of_arguments ∷ of_modules ∷ []
+families =
+    of_rules ∷ of_stacks ∷ of_tables ∷ of_paths ∷ of_words ∷ of_named ∷ of_released ∷ of_old_tables ∷ of_hosts ∷ of_arguments ∷ of_modules ∷ of_links
+    ∷ []
 
 -- the rows of families, one family after the other
 abbrev pub rows_of : List (List Explanation) → List Explanation

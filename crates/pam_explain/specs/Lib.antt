@@ -3,6 +3,7 @@ pub mod Explanation
 pub mod Explanations
 pub mod Hosts
 pub mod Laws
+pub mod Links
 pub mod Modules
 pub mod Named
 pub mod OldTables

@@ -5,6 +5,7 @@ mod arguments;
 mod explanation;
 mod hosts;
 pub mod laws;
+mod links;
 mod modules;
 mod named;
 mod old_tables;

@@ -1,3 +1,4 @@
+pub mod AccessSteps
 pub mod EveryPath
 pub mod FaultSteps
 pub mod KnowledgeSteps

@@ -1,3 +1,4 @@
+pub mod Access
 pub mod Answers
 pub mod Knowledge
 pub mod Laws

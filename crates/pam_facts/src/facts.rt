@@ -1,6 +1,6 @@
 //! What is known of modules.
 
-ghost use Rattle.std.specs.Prelude.{◌≡◌, map};
+ghost use Rattle.std.specs.Prelude.{◌≡◌, IfOk, map};
 ghost use Rattle.std.specs.List.{list_all, list_any, take_while};
 ghost use Rattle.pam_facts.specs.Error.{Gives};
 ghost use Rattle.pam_facts.specs.Fitting.{argument_fits, fact_of, fits, has_row, last_fact};
@@ -10,12 +10,13 @@ ghost use Rattle.pam_facts.specs.Reading.{known_rows};
 ghost use Rattle.pam_facts.specs.Views.{row_view, texts_of};
 
 use crate::error::FactsError;
+use crate::names::names_of;
 use crate::options::is_option;
 use crate::paths::module_name;
 use crate::reading::{Row, add_file, add_table};
 use crate::row::Fact;
 use pam_text::Texts;
-use std::alloc::Global;
+use std::alloc::{AllocError, Global};
 use std::marker::Model;
 
 /// What is known of modules: the program's table, and then the rows of a facts file.
@@ -153,5 +154,12 @@ impl<'a> Facts<'a> {
             Some(name) => some_fits(name, arguments, &self.rows),
             None => false,
         }
+    }
+
+    /// The name of the module of each row, in the order of the rows. A module that several rows are about is there as often.
+    pub fn names(&self, alloc: Global) -> Result<Texts, AllocError>
+        ensures { IfOk result (λ names. names ≡ map (λ row. row.name) self.now) }
+    {
+        names_of(alloc, &self.rows)
     }
 }

@@ -1,5 +1,5 @@
 //! What is known of modules: which of them check who logs in, in which kinds a module has a function, and which codes it can
-//! answer. A table of the program has the facts of 87 modules, and a facts file adds to it.
+//! answer. A table of the program has the facts of 107 modules, and a facts file adds to it.
 #![tactic(auto)]
 
 mod answers;
@@ -11,6 +11,7 @@ mod kinds;
 pub mod known;
 pub mod laws;
 mod missing;
+mod names;
 mod options;
 mod paths;
 mod reading;

@@ -15,6 +15,8 @@ const TABLE: &[u8] = b"\
     pam_afs_session passes account,password module_unknown\n\
     pam_alreadyloggedin passes account,password,session module_unknown\n\
     pam_apparmor passes auth,account,password module_unknown\n\
+    pam_barada checks account,password,session module_unknown\n\
+    pam_biometric checks account,password,session module_unknown\n\
     pam_canonicalize_user fails account,password,session module_unknown\n\
     pam_cap passes account,password,session module_unknown\n\
     pam_ccreds checks account,password,session module_unknown\n\
@@ -22,6 +24,8 @@ const TABLE: &[u8] = b"\
     pam_ccreds action=update passes account,password,session module_unknown\n\
     pam_cgfs passes auth,account,password module_unknown\n\
     pam_chroot passes\n\
+    pam_ck_connector passes auth ignore account,password module_unknown\n\
+    pam_cockpit_cert checks account,password,session module_unknown\n\
     pam_cracklib passes auth,account,session module_unknown\n\
     pam_debug passes auth,account,password,session success\n\
     pam_debug acct= passes\n\
@@ -32,6 +36,8 @@ const TABLE: &[u8] = b"\
     pam_deny passes auth,account auth_err password authtok_err session session_err\n\
     pam_duo checks\n\
     pam_echo passes auth,account,password,session success ignore buf_err\n\
+    pam_ecryptfs passes account module_unknown\n\
+    pam_encfs passes auth ignore auth_err service_err\n\
     pam_env passes auth ignore account,password service_err\n\
     pam_exec passes\n\
     pam_exec expose_authtok checks\n\
@@ -44,9 +50,13 @@ const TABLE: &[u8] = b"\
     pam_faildelay passes auth ignore account,password,session module_unknown\n\
     pam_faillock passes password,session module_unknown\n\
     pam_filter passes\n\
+    pam_fingwit passes\n\
     pam_fprintd checks account,session module_unknown\n\
+    pam_freerdp2 checks account,password module_unknown\n\
     pam_fscrypt passes account module_unknown\n\
     pam_ftp passes account,password,session module_unknown\n\
+    pam_gdm passes\n\
+    pam_glome checks account,password,session module_unknown\n\
     pam_gnome_keyring passes account module_unknown\n\
     pam_google_authenticator checks account,password,session module_unknown\n\
     pam_google_authenticator nullok ignores account,password,session module_unknown\n\
@@ -54,8 +64,11 @@ const TABLE: &[u8] = b"\
     pam_issue fails account,password,session module_unknown\n\
     pam_keyinit passes auth ignore account,password module_unknown\n\
     pam_krb5 checks\n\
+    pam_krb5_migrate_heimdal passes account,password,session module_unknown\n\
+    pam_krb5_migrate_mit passes account,password,session module_unknown\n\
     pam_kwallet5 passes account module_unknown\n\
     pam_lastlog passes password module_unknown\n\
+    pam_lastlog2 passes auth,account ignore password module_unknown\n\
     pam_ldap checks\n\
     pam_ldap ignore_authinfo_unavail ignores\n\
     pam_ldap ignore_unknown_user ignores\n\
@@ -79,14 +92,15 @@ const TABLE: &[u8] = b"\
     pam_p11 checks\n\
     pam_passwdqc passes auth,account,session module_unknown\n\
     pam_permit passes account,password,session success\n\
-    pam_pkcs11 ignores\n\
+    pam_pkcs11 checks\n\
+    pam_pkcs11 wait_for_card ignores\n\
     pam_poldi checks account,password,session module_unknown\n\
     pam_pwdfile checks account,password,session module_unknown\n\
     pam_pwhistory passes auth,account,session module_unknown\n\
     pam_pwquality passes auth,account,session module_unknown\n\
     pam_python checks\n\
-    pam_radius_auth checks account,password module_unknown\n\
-    pam_radius_auth localifdown ignores account,password module_unknown\n\
+    pam_radius_auth checks\n\
+    pam_radius_auth localifdown ignores\n\
     pam_rhosts checks account,password,session module_unknown\n\
     pam_rootok checks auth,account,password success auth_err session module_unknown\n\
     pam_script checks\n\
@@ -98,6 +112,9 @@ const TABLE: &[u8] = b"\
     pam_setquota passes auth,account,password module_unknown\n\
     pam_shells passes password,session module_unknown\n\
     pam_shield passes account,password,session module_unknown\n\
+    pam_shishi checks\n\
+    pam_ssh checks\n\
+    pam_ssh_add passes account,password module_unknown\n\
     pam_ssh_agent_auth checks account,password,session module_unknown\n\
     pam_sss checks\n\
     pam_sss ignore_authinfo_unavail ignores\n\
@@ -108,6 +125,7 @@ const TABLE: &[u8] = b"\
     pam_succeed_if use_uid checks\n\
     pam_systemd passes auth,account,password module_unknown\n\
     pam_systemd_home checks\n\
+    pam_systemd_loadkey passes account,password,session module_unknown\n\
     pam_tally passes password,session module_unknown\n\
     pam_tally2 passes password,session module_unknown\n\
     pam_time passes auth,password,session module_unknown\n\
@@ -117,6 +135,7 @@ const TABLE: &[u8] = b"\
     pam_u2f checks account,password,session module_unknown\n\
     pam_u2f nouserok ignores account,password,session module_unknown\n\
     pam_u2f alwaysok passes account,password,session module_unknown\n\
+    pam_ufpidentity checks account,password,session module_unknown\n\
     pam_umask passes auth,account,password module_unknown\n\
     pam_unix checks\n\
     pam_userdb checks auth service_err password,session module_unknown\n\
@@ -131,6 +150,8 @@ const TABLE: &[u8] = b"\
     pam_wheel trust checks password,session module_unknown\n\
     pam_wheel trust deny passes password,session module_unknown\n\
     pam_winbind checks\n\
+    pam_wtmpdb passes password module_unknown\n\
+    pam_x2go checks account,password module_unknown\n\
     pam_xauth passes auth,account,password module_unknown\n\
     pam_yubico checks\n\
     pam_yubico nullok ignores\n\

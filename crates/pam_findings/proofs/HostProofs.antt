@@ -7,6 +7,7 @@ pub mod Foldered
 pub mod Halves
 pub mod Jumping
 pub mod LettingIn
+pub mod Linked
 pub mod Listed
 pub mod Meeting
 pub mod OneService

@@ -1,6 +1,7 @@
 pub mod Arguments
 pub mod Beside
 pub mod Callers
+pub mod Closed
 pub mod Failing
 pub mod Faillock
 pub mod FileProblems
@@ -9,6 +10,7 @@ pub mod Host
 pub mod Inside
 pub mod Laws
 pub mod Levels
+pub mod Links
 pub mod Met
 pub mod Modules
 pub mod OtherAnswers
@@ -16,6 +18,7 @@ pub mod Problems
 pub mod Report
 pub mod Separators
 pub mod StackProblems
+pub mod Unasked
 pub mod UnknownModules
 pub mod Verdicts
 pub mod inner

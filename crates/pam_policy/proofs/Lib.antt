@@ -1,3 +1,4 @@
+pub mod HostProofs
 pub mod NamesProofs
 pub mod RulesProofs
 pub mod SearchProofs

@@ -1,3 +1,4 @@
+pub mod host
 pub mod names
 pub mod rules
 pub mod search

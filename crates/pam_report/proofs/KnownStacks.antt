@@ -12,16 +12,17 @@ use Rattle.pam_facts.specs.Rows.{Row}
 use Rattle.pam_facts.specs.declared.error.FactsError.{FactsError}
 use Rattle.pam_facts.specs.declared.error.FactsFault.{FactsFault}
 use Rattle.pam_facts.specs.declared.error.FactsFault.TheVariants as facts
-use Rattle.pam_facts.specs.known.Answers.{IsFault, IsTableFault as IsFaultOfTable, IsTimeFault as IsFaultOfTime}
+use Rattle.pam_facts.specs.known.Access.{IsTableFault as IsFaultOfTable}
+use Rattle.pam_facts.specs.known.Answers.{IsFault, IsTimeFault as IsFaultOfTime}
 use Rattle.pam_facts.specs.known.Knowledge.{Agree, Knows, allows_codes}
 use Rattle.pam_facts.specs.known.Reads.{tables_read}
 use Rattle.pam_facts.specs.known.Tables.{TablesText, TimedText}
 use Rattle.pam_facts.specs.declared.known.error.KnownError.{KnownError}
 use Rattle.pam_facts.specs.declared.known.error.KnownError.TheVariants as known
+use Rattle.pam_facts.specs.declared.known.error.NumberedError.{NumberedError}
 use Rattle.pam_paths.specs.Known.{may_answer}
 use Rattle.pam_paths.specs.Listing.{Allowance}
 use Rattle.pam_paths.specs.declared.knowledge.Known.{Known}
-use Rattle.pam_tables.specs.declared.error.TableError.{TableError}
 use Rattle.pam_tables.specs.declared.error.TableFault.{TableFault}
 use Rattle.pam_tables.specs.declared.error.TableFault.TheVariants as tables
 use Rattle.pam_tables.specs.declared.times.error.TimeError.{TimeError}
@@ -49,7 +50,7 @@ module _ (items : Items) (told : Result (ℕ → List ℕ) KnownError) where
   err-is : (e : KnownError) → told ≡ Err e → known_items items told ≡ Err (known_fault e)
   err-is e h = subst (λ (t : Result (ℕ → List ℕ) KnownError). known_items items t ≡ Err (known_fault e)) (sym h) refl
 
-  table-fault : (e : TableError) (fault : TableFault) → IsFaultOfTable fault e.line (told ≡ Err (known.Table e))
+  table-fault : (e : NumberedError) (fault : TableFault) → IsFaultOfTable fault e.error.line (told ≡ Err (known.Table e))
       → IsTableFault (IsErrOf (known_items items told)) e fault
   table-fault e tables.Memory h = h
   table-fault e _ h = err-is (known.Table e) h
@@ -60,7 +61,7 @@ module _ (items : Items) (told : Result (ℕ → List ℕ) KnownError) where
   time-fault e _ h = err-is (known.Time e) h
 
   fault-told : (e : KnownError) → IsFault e (told ≡ Err e) → IsFaultOf (known_items items told) (known_fault e)
-  fault-told (known.Table e) h = table-fault e e.fault h
+  fault-told (known.Table e) h = table-fault e e.error.fault h
   fault-told (known.Time e) h = time-fault e e.fault h
 
 pub finds-err : (items : Items) (told : Result (ℕ → List ℕ) KnownError) (e : KnownError) (fault : Fault) → IsFault e (told ≡ Err e) → fault ≡ known_fault e
@@ -84,7 +85,7 @@ with_its (inputs.Host files paths given) facts moment = refl
 with_its (inputs.Sides old new file returns) facts moment = refl
 with_its inputs.Nothing facts moment = refl
 with_its (inputs.Stack files) facts moment = refl
-with_its (inputs.Access table groups) facts moment = refl
+with_its (inputs.Access tables groups) facts moment = refl
 with_its (inputs.Time table) facts moment = refl
 
 -- the tables of these inputs at a moment
@@ -137,7 +138,7 @@ module _ (IsAnswerOf : Items → Allowance → Answer → Type 0) (told : Result
   from-conf e conf.Memory h = h
   from-conf e _ h = from-err (faults.Conf e) h
 
-  from-table : (e : TableError) (fault : TableFault) → IsTableFault (IsErrOf told) e fault → IsTableFault (IsAnswerFrom IsAnswerOf told) e fault
+  from-table : (e : NumberedError) (fault : TableFault) → IsTableFault (IsErrOf told) e fault → IsTableFault (IsAnswerFrom IsAnswerOf told) e fault
   from-table e tables.Memory h = h
   from-table e _ h = from-err (faults.Table e) h
 
@@ -161,7 +162,7 @@ module _ (IsAnswerOf : Items → Allowance → Answer → Type 0) (told : Result
   fault-found faults.UnusedCandidate h = from-err faults.UnusedCandidate h
   fault-found (faults.Moment e) h = from-err (faults.Moment e) h
   fault-found (faults.Cursor e) h = absurd h
-  fault-found (faults.Table e) h = from-table e e.fault h
+  fault-found (faults.Table e) h = from-table e e.error.fault h
   fault-found (faults.Time e) h = from-time e e.fault h
 
   -- the answer about it, if there is one

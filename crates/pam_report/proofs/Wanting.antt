@@ -35,7 +35,7 @@ table_wanted given Group h = h
 table_wanted given Returns h = h
 
 wanted : (given : TablesRead) (e : KnownError) → IsOfRead given e → IsWanting (of_paths given) (known_fault e)
-wanted given (known.Table e) h = λ memory. table_wanted given e.table h
+wanted given (known.Table e) h = λ memory. table_wanted given e.error.table h
 wanted given (known.Time e) h = λ memory. h
 
 given_are : (inputs : Inputs) (facts : Option (List Row)) (moment : Option DateTime)
@@ -43,7 +43,6 @@ given_are : (inputs : Inputs) (facts : Option (List Row)) (moment : Option DateT
 given_are (inputs.Paths files given) facts moment =
     rw (
       map_is (λ t. t.bytes.items) given.tables.groups,
-      map_is (λ t. t.bytes.items) given.tables.access,
       map_is (λ b. b.items) given.returns,
       time_is given.tables.time moment,
     ) refl
@@ -51,7 +50,7 @@ given_are (inputs.Host files paths given) facts moment = refl
 given_are (inputs.Sides old new file returns) facts moment = refl
 given_are inputs.Nothing facts moment = refl
 given_are (inputs.Stack files) facts moment = refl
-given_are (inputs.Access table groups) facts moment = refl
+given_are (inputs.Access tables groups) facts moment = refl
 given_are (inputs.Time table) facts moment = refl
 
 -- a fault of the tables that are read for a stack

@@ -48,7 +48,7 @@ key_of files services entry = number_in (problem_name entry.1.problem) ++ place_
 -- THE KEY of a problem of a table: its number, and the name of the table's file with the line
 unfoldable pub table_key_of : TablePathsText → TableFinding → List ℕ
 table_key_of paths finding =
-    number_in (table_problem_name finding.problem) ++ file_key (Some (name_of_path (path_of paths finding.table))) finding.line
+    number_in (table_problem_name finding.problem) ++ file_key (Some (name_of_path (path_of paths finding.table finding.number))) finding.line
 
 -- some line has this key
 abbrev pub accepts : List Accepted → List ℕ → Bool

@@ -1,5 +1,5 @@
 -- The answer to a request: the reply that its inputs imply, or the first fault.
-use Rattle.std.specs.Prelude.{◌≡◌, ℕ, List, map, Option, Some, None, Result, Ok, Err, ◌==◌, if◌then◌else◌, length, unwrap_or}
+use Rattle.std.specs.Prelude.{◌≡◌, ℕ, ◌&&◌, List, map, nat_lt, Option, Some, None, Result, Ok, Err, ◌==◌, if◌then◌else◌, length, slice_get, unwrap_or}
 use Rattle.std.specs.Char.{to_ascii_lowercase}
 use Rattle.std.specs.Option.{option_copied}
 use Rattle.pam_conf.specs.Files.{Folder}
@@ -13,18 +13,19 @@ use Rattle.pam_explain.specs.Explanations.{explanation_of}
 use Rattle.pam_dispatch.specs.Runs.{answers_of}
 use Rattle.pam_dispatch.specs.State.{start_state}
 use Rattle.pam_dispatch.specs.Tree.{asked, decided}
-use Rattle.pam_tables.specs.Access.{TableText, access_answer, table_of}
 use Rattle.pam_tables.specs.Groups.{Group}
 use Rattle.pam_tables.specs.Login.{LoginText}
 use Rattle.pam_tables.specs.Options.{Options, options_of}
-use Rattle.pam_tables.specs.declared.error.Table.{Table}
 use Rattle.pam_tables.specs.declared.error.Table.TheVariants as tables
 use Rattle.pam_tables.specs.declared.error.TableFault.{TableFault}
 use Rattle.pam_tables.specs.times.Reading.{rules_of}
 use Rattle.pam_tables.specs.times.Times.{Rule, answer_of as time_answer_of}
 use Rattle.pam_tables.specs.declared.times.error.TimeError.{TimeError}
 use Rattle.pam_tables.specs.declared.times.moments.MomentError.{MomentError}
+use Rattle.pam_facts.specs.known.Access.{is_by_line, tables_decide}
 use Rattle.pam_facts.specs.settings.Settings.{SettingText, setting_view}
+use Rattle.pam_facts.specs.declared.known.access.AccessDecision.{AccessDecision}
+use Rattle.pam_facts.specs.declared.known.error.NumberedError.{NumberedError}
 use Rattle.pam_words.specs.declared.wanted.Answers.{Answers}
 use Rattle.pam_words.specs.declared.wanted.Login.{Login}
 use Rattle.pam_words.specs.declared.wanted.ReleaseName.{ReleaseName}
@@ -34,6 +35,7 @@ use Rattle.pam_report.specs.Candidates.{CandidateText, IfUsed, first_unused}
 use Rattle.pam_report.specs.Check.{IsCheck}
 use Rattle.pam_report.specs.Compare.{IsCompare}
 use Rattle.pam_report.specs.Decide.{asked_modules}
+use Rattle.pam_report.specs.Fault.{table_fault}
 use Rattle.pam_report.specs.Graph.{IsGraphReply}
 use Rattle.pam_report.specs.Inputs.{access_given, files_given, group_file, groups_in, no_files, there_given, time_given}
 use Rattle.pam_report.specs.KnownStack.{KnownItems, facts_asked, known_stack, with_facts}
@@ -100,20 +102,23 @@ explained (Some number) = explained_by (explanation_of number)
 
 -- ---- access tables
 
-abbrev pub table_fault : Table → TableFault × ℕ → Fault
-table_fault table e = faults.Table (record { table = table; fault = e.0; line = e.1 })
+-- the name of the table whose line decides, if several are named
+abbrev pub table_of_line : List (List ℕ) → AccessDecision → Option (List ℕ)
+table_of_line names decision = if nat_lt 1 (length names) && is_by_line decision.answer then slice_get names decision.number else None
 
-abbrev pub with_table : LoginText → List Group → Result TableText (TableFault × ℕ) → Answer
-with_table login groups (Err e) = Err (table_fault tables.Access e)
-with_table login groups (Ok table) = Ok (AccessReply (access_answer table login groups))
+-- the first line that matches, over all tables in turn. The first are the names of the tables
+abbrev pub with_decision : List (List ℕ) → Result AccessDecision NumberedError → Answer
+with_decision names (Err e) = Err (faults.Table e)
+with_decision names (Ok decision) = Ok (AccessReply decision.answer (table_of_line names decision))
 
--- a fault of the group file comes before those of the table
-abbrev pub with_groups : LoginText → Options → List ℕ → Result (List Group) (TableFault × ℕ) → Answer
-with_groups login options bytes (Err e) = Err (table_fault tables.Group e)
-with_groups login options bytes (Ok groups) = with_table login groups (table_of options bytes)
+-- a fault of the group file comes before those of the tables
+abbrev pub with_groups : LoginText → Options → List (List ℕ) → List (List ℕ) → Result (List Group) (TableFault × ℕ) → Answer
+with_groups login options names contents (Err e) = Err (table_fault tables.Group e)
+with_groups login options names contents (Ok groups) = with_decision names (tables_decide login groups options contents)
 
-abbrev pub looked_up : LoginText → List (List ℕ) → Inputs → Answer
-looked_up login arguments inputs = with_groups login (options_of arguments) (access_given inputs) (groups_in (group_file inputs))
+-- a login with arguments, in the tables with these names
+abbrev pub looked_up : LoginText → List (List ℕ) → List (List ℕ) → Inputs → Answer
+looked_up login arguments names inputs = with_groups login (options_of arguments) names (access_given inputs) (groups_in (group_file inputs))
 
 -- ---- time tables
 
@@ -149,8 +154,8 @@ module _ (Gives : (Answer → Type 0) → Type 0) where
   AnswersBy service candidates (Show source kind release) files inputs = Gives (λ answer. shown_by release service kind files ≡ answer)
   AnswersBy service candidates (Decide source kind answered) files inputs =
       Gives (λ answer. with_stack (resolved files service kind) (decided_by service kind answered.items) ≡ answer)
-  AnswersBy service candidates (Access table groups login arguments) files inputs =
-      Gives (λ answer. looked_up (login_at service login) arguments inputs ≡ answer)
+  AnswersBy service candidates (Access names groups login arguments) files inputs =
+      Gives (λ answer. looked_up (login_at service login) arguments (map (λ s. s.now) names.items) inputs ≡ answer)
   AnswersBy service candidates (Time table login moment) files inputs =
       (at : Result DateTime MomentError) × IsMoment moment at
       × Gives (λ answer. timed (login_at service login) (time_given inputs) at ≡ answer)

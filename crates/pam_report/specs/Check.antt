@@ -1,5 +1,5 @@
 -- The reply of `check`: what is wrong with the host.
-use Rattle.std.specs.Prelude.{◌≡◌, ◌<◌, ℕ, All, List, [], length, map, Result, Ok, Err, unwrap_or}
+use Rattle.std.specs.Prelude.{◌≡◌, ◌<◌, ℕ, All, List, [], length, map, Option, Result, Ok, Err, unwrap_or}
 use Rattle.std.specs.BTreeMap.{BTreeMap}
 use Rattle.std.specs.Option.{option_copied}
 use Rattle.pam_findings.specs.accepted.Lines.{Accepted, accepted_lines}
@@ -11,11 +11,13 @@ use Rattle.pam_facts.specs.Rows.{Row}
 use Rattle.pam_facts.specs.declared.error.FactsError.{FactsError}
 use Rattle.pam_findings.specs.host.Laws.{IsSoundStack}
 use Rattle.pam_findings.specs.host.Levels.{level_of}
+use Rattle.pam_findings.specs.host.Links.{WithLinks, told_way}
 use Rattle.pam_findings.specs.host.Report.{IsReport, host_of}
 use Rattle.pam_conf.specs.Services.{checked_services}
 use Rattle.pam_findings.specs.declared.host.level.Level.TheVariants.{Note}
 use Rattle.pam_findings.specs.declared.host.problem.Place.{Place}
 use Rattle.pam_findings.specs.declared.host.report.Finding.{Finding}
+use Rattle.pam_findings.specs.declared.host.way_in.WayIn.{WayIn}
 use Rattle.pam_findings.specs.misspelled.Findings.{misspelled_at}
 use Rattle.pam_findings.specs.tables.Report.{IsTableReport}
 use Rattle.pam_findings.specs.declared.tables.problem.TableFinding.{TableFinding}
@@ -24,7 +26,8 @@ use Rattle.pam_words.specs.declared.wanted.CheckFiles.{CheckFiles}
 use Rattle.pam_words.specs.declared.wanted.LevelName.{LevelName}
 use Rattle.pam_report.specs.Accepting.{all_keys, lines_without, not_accepted, table_findings, tables_not_accepted}
 use Rattle.pam_report.specs.Fault.{accept_fault, facts_fault}
-use Rattle.pam_report.specs.Inputs.{accept_given, facts_given, host_tables_given, paths_given, table_paths_given, there_given, vendor_start_given}
+use Rattle.pam_report.specs.Inputs.{accept_given, facts_given, host_tables_given, outside_given, paths_given, table_paths_given, there_given}
+use Rattle.pam_report.specs.Inputs.{vendor_start_given}
 use Rattle.pam_report.specs.Reply.{Answer, Check, CheckValue}
 use Rattle.pam_report.specs.declared.inputs.Inputs.{Inputs}
 
@@ -37,13 +40,18 @@ module _ (services : List (List ℕ)) (fail_on : LevelName) (named : CheckFiles)
     pub are_services : value.services ≡ checked_services files services
     pub same_level : value.fail_on ≡ fail_on
     pub same_accept : value.accept ≡ unwrap_or (option_copied named.accept) []
+    pub plain : BTreeMap Place Finding
+    pub ways : List (Option WayIn)
+    pub report : IsReport files (vendor_start_given inputs) services facts (there_given inputs) plain ways
+    -- with S27, and without the ways in that tell of a file which leads out of its folder
     pub all : BTreeMap Place Finding
-    pub report : IsReport files (vendor_start_given inputs) services facts (there_given inputs) all value.ways_in
+    pub links : WithLinks (outside_given inputs) plain all
+    pub told_ways : value.ways_in ≡ map (told_way (outside_given inputs)) ways
     pub same_table_paths : value.table_paths ≡ table_paths_given inputs
     pub all_tables : BTreeMap TablePlace TableFinding
     pub table_report : IsTableReport files value.services (host_tables_given inputs) all_tables
     pub not_accepted : value.found ≡ not_accepted lines files value.services all.entries
-    pub misspelled : value.misspelled ≡ map (misspelled_at files (there_given inputs)) value.found
+    pub misspelled : value.misspelled ≡ map (misspelled_at files (there_given inputs) (outside_given inputs)) value.found
     pub tables_not_accepted : value.tables ≡ tables_not_accepted lines value.table_paths (table_findings all_tables)
     pub unused : value.unused ≡ lines_without (all_keys files value.services all.entries value.table_paths (table_findings all_tables)) lines
     -- where no line accepts a finding, and all that are listed are notes, each stack that is checked is sound

@@ -12,7 +12,7 @@ use Rattle.pam_tables.specs.Returns.{ReturnLine, returns_of}
 use Rattle.pam_tables.specs.declared.error.Table.TheVariants as tables
 use Rattle.pam_tables.specs.declared.error.TableFault.{TableFault}
 use Rattle.pam_report.specs.ComparedKeys.{names_module_in}
-use Rattle.pam_report.specs.Fault.{facts_fault}
+use Rattle.pam_report.specs.Fault.{facts_fault, table_fault}
 use Rattle.pam_report.specs.Inputs.{facts_given, new_given, no_files, old_given, returns_given}
 use Rattle.pam_report.specs.Reply.{Answer, Compared, CompareValue}
 use Rattle.pam_report.specs.declared.fault.Fault.{Fault}
@@ -54,7 +54,7 @@ lines_of None = Ok None
 lines_of (Some bytes) = some_lines (returns_of bytes)
 
 abbrev pub returns_fault : TableFault × ℕ → Fault
-returns_fault e = faults.Table (record { table = tables.Returns; fault = e.0; line = e.1 })
+returns_fault e = table_fault tables.Returns e
 
 -- what is compared: the service and the kind that are named, or all, with what is set for modules
 module _ (service : Option (List ℕ)) (kind : Option Kind) (settings : List SettingText) (inputs : Inputs) where

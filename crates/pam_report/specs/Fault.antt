@@ -1,5 +1,5 @@
 -- The line of a fault: its number and name, and its place if it has one.
-use Rattle.std.specs.Prelude.{⊤, ℕ, List, [], ◌∷◌, ◌++◌, codes, decimal, Option, Some, None, slice_get, string_bytes}
+use Rattle.std.specs.Prelude.{⊤, ℕ, nat_lt, if◌then◌else◌, List, [], ◌∷◌, ◌++◌, codes, decimal, Option, Some, None, slice_get, string_bytes}
 use Rattle.std.specs.List.{concat}
 use Rattle.std.specs.Option.{option_map}
 use Rattle.pam_conf.specs.Files.{Folder}
@@ -13,6 +13,7 @@ use Rattle.pam_facts.specs.declared.error.FactsFault.{FactsFault}
 use Rattle.pam_facts.specs.declared.error.FactsFault.TheVariants as facts
 use Rattle.pam_facts.specs.declared.known.error.KnownError.{KnownError}
 use Rattle.pam_facts.specs.declared.known.error.KnownError.TheVariants as known
+use Rattle.pam_facts.specs.declared.known.error.NumberedError.{NumberedError}
 use Rattle.pam_paths.specs.declared.cursor.CursorError.{CursorError}
 use Rattle.pam_paths.specs.declared.cursor.CursorError.TheVariants as cursor
 use Rattle.pam_report.specs.FaultTable.{Row, accept_row, candidate_row, conf_row, count_row, cursor_row, facts_row, graph_row, input_row, key_row, memory_row}
@@ -38,6 +39,10 @@ abbrev pub known_fault : KnownError → Fault
 known_fault (known.Table e) = faults.Table e
 known_fault (known.Time e) = faults.Time e
 
+-- the fault of a table that is the only one of its kind, or the first
+abbrev pub table_fault : Table → TableFault × ℕ → Fault
+table_fault t e = faults.Table (record { number = 1; error = record { table = t; fault = e.0; line = e.1 } })
+
 -- the fault of a facts file and of an accept file. A failed allocation has no place
 abbrev pub facts_fault : FactsError → Fault
 facts_fault e = fault_of_facts e.fault e
@@ -49,7 +54,7 @@ accept_fault e = faults.Accept e
 -- the row of a fault in the table
 abbrev pub row_of : Fault → Row
 row_of (faults.Conf e) = conf_row e.kind
-row_of (faults.Table e) = table_row e.fault
+row_of (faults.Table e) = table_row e.error.fault
 row_of (faults.Time e) = time_row e.fault
 row_of (faults.Facts e) = facts_row e.fault
 row_of (faults.Accept e) = accept_row e
@@ -100,6 +105,15 @@ abbrev pub line_place : Option (List ℕ) → ℕ → List ℕ
 line_place None line = []
 line_place (Some file) line = concat (codes " " ∷ file ∷ codes ":" ∷ decimal line ∷ [])
 
+-- ` TABLE:LINE`, and ` TABLE[N]:LINE` for the access table of a number after the first. A failed allocation has no place
+abbrev pub place_in_table : ℕ → Option (List ℕ) → ℕ → List ℕ
+place_in_table number None line = []
+place_in_table number (Some name) line =
+    if nat_lt 1 number then concat (codes " " ∷ name ∷ codes "[" ∷ decimal number ∷ codes "]:" ∷ decimal line ∷ []) else line_place (Some name) line
+
+abbrev pub table_place : NumberedError → List ℕ
+table_place e = place_in_table e.number (table_file e.error.table e.error.fault) e.error.line
+
 -- ` step N`, for the code of a cursor with this number, from 1
 abbrev pub cursor_place : CursorError → List ℕ
 cursor_place (cursor.NotLeast step) = concat (codes " step " ∷ decimal step ∷ [])
@@ -107,7 +121,7 @@ cursor_place e = []
 
 abbrev pub place_of : Folder → Fault → List ℕ
 place_of files (faults.Conf e) = line_place (conf_file files e.at e.kind) e.line
-place_of files (faults.Table e) = line_place (table_file e.table e.fault) e.line
+place_of files (faults.Table e) = table_place e
 place_of files (faults.Time e) = line_place (time_file e.fault) e.line
 place_of files (faults.Facts e) = line_place (facts_file e.fault) e.line
 place_of files (faults.Accept e) = line_place (accept_file e) (accept_line e)

@@ -3,7 +3,7 @@ use Rattle.std.specs.Prelude.{◌≡◌, ⊤, None, Result, Ok, Err}
 use Rattle.pam_conf.specs.declared.error.FaultKind.{FaultKind}
 use Rattle.pam_conf.specs.declared.error.FaultKind.TheVariants as conf
 use Rattle.pam_conf.specs.declared.conf_error.ConfError.{ConfError}
-use Rattle.pam_tables.specs.declared.error.TableError.{TableError}
+use Rattle.pam_facts.specs.declared.known.error.NumberedError.{NumberedError}
 use Rattle.pam_tables.specs.declared.error.TableFault.{TableFault}
 use Rattle.pam_tables.specs.declared.error.TableFault.TheVariants as reasons
 use Rattle.pam_tables.specs.declared.times.error.TimeError.{TimeError}
@@ -20,8 +20,8 @@ abbrev pub IsConfFault : (Answer → Type 0) → ConfError → FaultKind → Typ
 IsConfFault IsAnswer error conf.Memory = error ≡ record { kind = conf.Memory; at = None; line = 0 }
 IsConfFault IsAnswer error _ = IsAnswer (Err (faults.Conf error))
 
-abbrev pub IsTableFault : (Answer → Type 0) → TableError → TableFault → Type 0
-IsTableFault IsAnswer error reasons.Memory = error.line ≡ 0
+abbrev pub IsTableFault : (Answer → Type 0) → NumberedError → TableFault → Type 0
+IsTableFault IsAnswer error reasons.Memory = error.error.line ≡ 0
 IsTableFault IsAnswer error _ = IsAnswer (Err (faults.Table error))
 
 abbrev pub IsTimeFault : (Answer → Type 0) → TimeError → TimeFault → Type 0
@@ -43,7 +43,7 @@ Refuses IsAnswer faults.NoSuchService = IsAnswer (Err faults.NoSuchService)
 Refuses IsAnswer faults.UnusedCandidate = IsAnswer (Err faults.UnusedCandidate)
 Refuses IsAnswer (faults.Moment e) = IsAnswer (Err (faults.Moment e))
 Refuses IsAnswer (faults.Cursor e) = ⊥
-Refuses IsAnswer (faults.Table e) = IsTableFault IsAnswer e e.fault
+Refuses IsAnswer (faults.Table e) = IsTableFault IsAnswer e e.error.fault
 Refuses IsAnswer (faults.Time e) = IsTimeFault IsAnswer e e.fault
 
 -- the reply of an answer that satisfies a relation, or its fault, unless an allocation failed

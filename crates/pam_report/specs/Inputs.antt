@@ -1,5 +1,5 @@
 -- The tables that a request is answered from: access.conf(5), group(5), time.conf(5).
-use Rattle.std.specs.Prelude.{ℕ, suc, ◌==◌, List, [], length, Option, Some, None, Result, Ok, Vec, Bool, true, false, is_none, is_some, option_map, ◌&&◌, ◌||◌}
+use Rattle.std.specs.Prelude.{ℕ, suc, ◌==◌, List, [], length, Option, Some, None, Result, Ok, Vec, Bool, true, false, is_none, is_some, nat_le, option_map, ◌&&◌, ◌||◌}
 use Rattle.std.specs.Bool.{beq}
 use Rattle.std.specs.Option.{option_map_or}
 use Rattle.std.specs.Global.{Global}
@@ -7,6 +7,7 @@ use Rattle.jiff.specs.Types.{DateTime}
 use Rattle.pam_conf.specs.Files.{Folder}
 use Rattle.pam_conf.specs.declared.rule.Form.TheVariants.{Dir}
 use Rattle.pam_facts.specs.Rows.{Row}
+use Rattle.pam_facts.specs.known.Answers.{if_any}
 use Rattle.pam_facts.specs.known.Tables.{TablesText, TimedText}
 use Rattle.pam_findings.specs.tables.Tables.{TablesText as HostTablesText}
 use Rattle.pam_tables.specs.Groups.{Group, groups_of}
@@ -18,6 +19,7 @@ use Rattle.pam_words.specs.declared.wanted.TableNames.{TableNames}
 use Rattle.pam_words.specs.declared.wanted.Task.TheVariants.{Check, Compare, Show, Decide, Access, Time, Paths, Outcomes, Graph, Explain, Facts, Version}
 use Rattle.pam_words.specs.declared.wanted.CheckFiles.{CheckFiles}
 use Rattle.pam_words.specs.declared.wanted.CompareFiles.{CompareFiles}
+use Rattle.pam_report.specs.declared.inputs.AccessFiles.{AccessFiles}
 use Rattle.pam_report.specs.declared.inputs.CheckInputs.{CheckInputs}
 use Rattle.pam_report.specs.declared.inputs.SideInputs.{SideInputs}
 use Rattle.pam_report.specs.TablePaths.{TablePathsText}
@@ -32,7 +34,7 @@ files_given (inputs.Host files paths given) = Some files
 files_given (inputs.Sides old new facts returns) = None
 files_given (inputs.Stack files) = Some files
 files_given (inputs.Paths files given) = Some files
-files_given (inputs.Access table groups) = None
+files_given (inputs.Access tables groups) = None
 files_given (inputs.Time table) = None
 files_given inputs.Nothing = None
 
@@ -45,6 +47,11 @@ paths_given _ = []
 abbrev pub vendor_start_given : Inputs → ℕ
 vendor_start_given (inputs.Host files paths given) = given.vendor_start
 vendor_start_given _ = 0
+
+-- by the position of each file of `check`, whether it is a link that leads out of its folder
+abbrev pub outside_given : Inputs → List Bool
+outside_given (inputs.Host files paths given) = given.outside.items
+outside_given _ = []
 
 -- the paths at which a module is there, if that is known
 abbrev pub there_given : Inputs → Option (List (List ℕ))
@@ -87,15 +94,15 @@ path_of_table table = option_map_or (λ t. t.path.items) table []
 abbrev pub host_tables_given : Inputs → HostTablesText
 host_tables_given (inputs.Host files paths given) = record {
   groups = bytes_of_table given.tables.groups;
-  access = bytes_of_table given.tables.access;
+  access = given.tables.access.contents;
   time = bytes_of_table given.tables.time;
 }
-host_tables_given _ = record { groups = None; access = None; time = None }
+host_tables_given _ = record { groups = None; access = []; time = None }
 
 abbrev pub table_paths_given : Inputs → TablePathsText
 table_paths_given (inputs.Host files paths given) = record {
   groups = path_of_table given.tables.groups;
-  access = path_of_table given.tables.access;
+  access = given.tables.access.paths;
   time = path_of_table given.tables.time;
 }
 table_paths_given _ = record { groups = []; access = []; time = [] }
@@ -104,13 +111,13 @@ table_paths_given _ = record { groups = []; access = []; time = [] }
 abbrev pub no_files : Folder
 no_files = record { form = Dir; entries = [] }
 
--- the access table of `access`, and its group file
-abbrev pub access_given : Inputs → List ℕ
-access_given (inputs.Access table groups) = table.items
+-- the access tables of `access`, and its group file
+abbrev pub access_given : Inputs → List (List ℕ)
+access_given (inputs.Access tables groups) = tables
 access_given _ = []
 
 abbrev pub group_file : Inputs → Option (List ℕ)
-group_file (inputs.Access table groups) = option_map (λ b. b.items) groups
+group_file (inputs.Access tables groups) = option_map (λ b. b.items) groups
 group_file _ = None
 
 -- the groups of a file, which are none without a file
@@ -129,11 +136,15 @@ time_given _ = []
 abbrev pub has_paths : Folder → List (List ℕ) → Bool
 has_paths files paths = length paths == suc (length files.entries)
 
+-- there is an access table
+abbrev pub has_access : AccessFiles → Bool
+has_access access = is_some (if_any access.contents)
+
 -- each table that is named is given
 abbrev pub has_named_tables : TableNames → TableFiles → Bool
 has_named_tables named given =
     (is_none named.groups || is_some given.groups)
-    && ((is_none named.access || is_some given.access) && (is_none named.time || is_some given.time))
+    && (nat_le (length named.access.items) (length given.access.contents) && (is_none named.time || is_some given.time))
 
 -- the contents of exactly the facts file and the accept file that are named, and of each table that is named
 abbrev pub fits_check : CheckFiles → CheckInputs → Bool
@@ -158,7 +169,8 @@ fits_task (Check source services fail_on named) (inputs.Host files paths given) 
 fits_task (Compare old new service kind named) (inputs.Sides old_side new_side facts returns) = fits_compare named facts returns
 fits_task (Show source kind release) (inputs.Stack files) = true
 fits_task (Decide source kind answered) (inputs.Stack files) = true
-fits_task (Access name groups_named login arguments) (inputs.Access table groups) = beq (is_some groups) (is_some groups_named)
+fits_task (Access names groups_named login arguments) (inputs.Access tables groups) =
+    length tables == length names.items && beq (is_some groups) (is_some groups_named)
 fits_task (Time name login moment) (inputs.Time table) = true
 fits_task (Paths source kind limit part filter knowledge) inputs = fits_knowledge knowledge inputs
 fits_task (Outcomes source kind knowledge) inputs = fits_knowledge knowledge inputs
@@ -177,14 +189,14 @@ timed (Some table) None = None
 timed None moment = None
 
 abbrev pub no_tables : TablesText
-no_tables = record { there = None; groups = None; access = None; time = None; returns = None; facts = None }
+no_tables = record { there = None; groups = None; access = []; time = None; returns = None; facts = None }
 
 -- the tables of the commands about paths, which modules are there, and what is known of them, if that is asked
 abbrev pub tables_given : Inputs → Option (List Row) → Option DateTime → TablesText
 tables_given (inputs.Paths files given) facts moment = record {
   there = given.there;
   groups = bytes_of_table given.tables.groups;
-  access = bytes_of_table given.tables.access;
+  access = given.tables.access.contents;
   time = timed given.tables.time moment;
   returns = option_map (λ b. b.items) given.returns;
   facts = facts;

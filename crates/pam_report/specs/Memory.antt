@@ -10,7 +10,7 @@ use Rattle.pam_tables.specs.declared.error.TableFault.TheVariants as reasons
 use Rattle.pam_tables.specs.declared.times.error.TimeFault.TheVariants as times
 use Rattle.pam_words.specs.declared.wanted.Task.{Task}
 use Rattle.pam_words.specs.declared.wanted.Task.TheVariants.{Check, Compare, Show, Decide, Access, Time, Paths, Outcomes, Graph, Explain, Facts, Version}
-use Rattle.pam_report.specs.Inputs.{group_file, returns_given}
+use Rattle.pam_report.specs.Inputs.{group_file, has_access, returns_given}
 use Rattle.pam_report.specs.declared.fault.Fault.{Fault}
 use Rattle.pam_report.specs.declared.fault.Fault.TheVariants as faults
 use Rattle.pam_report.specs.declared.inputs.Inputs.{Inputs}
@@ -48,7 +48,7 @@ of_tables access groups time = record { configuration = false; access = access; 
 abbrev pub paths_tables : Bool → Inputs → TablesRead
 paths_tables timed (inputs.Paths files given) = record {
   groups = is_some given.tables.groups;
-  access = is_some given.tables.access;
+  access = has_access given.tables.access;
   time = is_some given.tables.time && timed;
   returns = is_some given.returns;
 }
@@ -89,7 +89,7 @@ wants_table wants Returns = wants.returns
 abbrev pub IsWanting : Wants → Fault → Type 0
 IsWanting wants faults.Memory = wants.work ≡ true
 IsWanting wants (faults.Conf e) = e.kind ≡ conf.Memory → wants.configuration ≡ true
-IsWanting wants (faults.Table e) = e.fault ≡ reasons.Memory → wants_table wants e.table ≡ true
+IsWanting wants (faults.Table e) = e.error.fault ≡ reasons.Memory → wants_table wants e.error.table ≡ true
 IsWanting wants (faults.Time e) = e.fault ≡ times.Memory → wants.time ≡ true
 IsWanting wants (faults.Facts e) = e.fault ≢ facts.Memory
 IsWanting wants (faults.Accept e) = e ≢ accept.Memory

@@ -30,7 +30,7 @@ problem_name (problems.Released difference) = name_of difference
 problem_name (problems.IncludedFromVendor is_at_include) = codes "L10 IncludedFromVendor"
 problem_name problems.EmptySeparator = codes "A5 EmptySeparator"
 problem_name (problems.LetsNobodyIn service kind) = codes "S1 LetsNobodyIn"
-problem_name (problems.LetsAnybodyIn service) = codes "S2 LetsAnybodyIn"
+problem_name (problems.LetsAnybodyIn service is_greeter) = codes "S2 LetsAnybodyIn"
 problem_name problems.NeverAsked = codes "S3 NeverAsked"
 problem_name problems.JumpPastEnd = codes "S4 JumpPastEnd"
 problem_name (problems.NoModule is_dashed) = codes "S5 NoModule"
@@ -47,11 +47,12 @@ problem_name (problems.BadArguments lack) = codes "S19 BadArguments"
 problem_name (problems.NotCounted counts) = codes "S22 NotCounted"
 problem_name problems.UnknownModule = codes "S25 UnknownModule"
 problem_name problems.SuccessNeverCounts = codes "S26 SuccessNeverCounts"
+problem_name problems.LinkOutside = codes "S27 LinkOutside"
 
 -- the service and the kind of a problem of a whole stack
 abbrev pub stack_of : Problem → Option (ℕ × Kind)
 stack_of (problems.LetsNobodyIn service kind) = Some (service, kind)
-stack_of (problems.LetsAnybodyIn service) = Some (service, Auth)
+stack_of (problems.LetsAnybodyIn service is_greeter) = Some (service, Auth)
 stack_of (problems.TooLarge service kind) = Some (service, kind)
 stack_of (problems.OtherAnswers service kind has_no_rule lets_nobody_in) = Some (service, kind)
 stack_of problem = None

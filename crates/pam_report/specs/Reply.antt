@@ -113,7 +113,8 @@ pub data Reply : Type 0 where
   Stack : StackValue → Reply
   Released : ReleasedValue → Reply
   Run : RunValue → Reply
-  Access : AccessAnswer → Reply
+  -- the answer, and the name of the table whose line decides, where several are given
+  Access : AccessAnswer → Option (List ℕ) → Reply
   Time : TimeAnswer → Reply
   Outcomes : OutcomesValue → Reply
   Drawing : DrawingValue → Reply
@@ -180,7 +181,7 @@ compare_status value = status_of_counts (counts_of value.changes)
 -- THE STATUS of a reply
 abbrev pub status_of : Reply → Status
 status_of (Run run) = status_of_decision run.decision
-status_of (Access found) = access_status found
+status_of (Access answer table) = access_status answer
 status_of (Time found) = time_status found
 status_of (Check found) = check_status found
 status_of (Compared changes) = compare_status changes

@@ -1,5 +1,5 @@
 -- The values of replies.
-use Rattle.std.specs.Option.{option_map_or}
+use Rattle.std.specs.Option.{option_copied, option_map_or}
 use Rattle.std.specs.Borrow.{Bor}
 use Rattle.std.specs.Prelude.{[], Option, map, option_map, unwrap_or}
 use Rattle.pam_conf.specs.Files.{Folder}
@@ -95,7 +95,7 @@ abbrev pub reply_view : Reply → spec.Reply
 reply_view (replies.Stack stack) = spec.Stack (stack_view stack)
 reply_view (replies.Released rules) = spec.Released (released_view rules)
 reply_view (replies.Run run) = spec.Run (run_view run)
-reply_view (replies.Access found) = spec.Access found
+reply_view (replies.Access found) = spec.Access found.answer (option_copied found.table)
 reply_view (replies.Time found) = spec.Time found
 reply_view (replies.Outcomes outcomes) = spec.Outcomes (outcomes_view outcomes)
 reply_view (replies.Graph drawing) = spec.Drawing (drawing_view drawing)

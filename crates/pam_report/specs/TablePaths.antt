@@ -1,5 +1,6 @@
 -- The paths of the tables of a host, and what their problems are called.
-use Rattle.std.specs.Prelude.{ℕ, List}
+use Rattle.std.specs.Prelude.{ℕ, List, [], slice_get, unwrap_or}
+use Rattle.std.specs.Option.{option_map_or}
 use Rattle.pam_findings.specs.declared.host.level.Level.{Level}
 use Rattle.pam_findings.specs.declared.host.level.Level.TheVariants.{Error, Note, Warning}
 use Rattle.pam_released.specs.tables.Meanings.{name_of}
@@ -16,19 +17,24 @@ use Rattle.pam_tables.specs.declared.times.error.TimeFault.TheVariants as times
 use Rattle.pam_report.specs.FaultTable.{table_row, time_row}
 use Rattle.pam_report.specs.declared.tables.TablePaths.{TablePaths}
 
--- the path under which each table was read; empty if it is not given
+-- the path under which each table was read, those of the access tables in the order in which they are read; empty if it is not given
 pub record TablePathsText : Type 0 where
   pub groups : List ℕ
-  pub access : List ℕ
+  pub access : List (List ℕ)
   pub time : List ℕ
 
 abbrev pub table_paths_view : TablePaths → TablePathsText
-table_paths_view paths = record { groups = paths.groups.now; access = paths.access.now; time = paths.time.now }
+table_paths_view paths = record {
+  groups = paths.groups.now;
+  access = option_map_or (λ p. p.now) paths.access [];
+  time = paths.time.now;
+}
 
-abbrev pub path_of : TablePathsText → HostTable → List ℕ
-path_of paths Groups = paths.groups
-path_of paths Access = paths.access
-path_of paths Time = paths.time
+-- the path of a table; of access tables it is the one of this number, from 0
+abbrev pub path_of : TablePathsText → HostTable → ℕ → List ℕ
+path_of paths Groups number = paths.groups
+path_of paths Access number = unwrap_or (slice_get paths.access number) []
+path_of paths Time number = paths.time
 
 -- the number and the name
 unfoldable pub table_problem_name : TableProblem → List ℕ

@@ -1,6 +1,6 @@
 //! Faults: why a request has no answer, with their lines and exit statuses.
 
-ghost use Rattle.std.specs.Prelude.{◌≡◌, ◌++◌, ◌≤◌, IfOk, OnOk, option_map};
+ghost use Rattle.std.specs.Prelude.{◌≡◌, ◌++◌, ◌≤◌, IfOk, OnOk, Some, option_map};
 ghost use Rattle.pam_codes.specs.Line.{line_text, piece_text};
 ghost use Rattle.pam_report.specs.Fault as spec;
 ghost use Rattle.pam_report.specs.Fault.{IsNumbered};
@@ -15,7 +15,7 @@ use crate::inputs::InputError;
 use pam_codes::Piece;
 use pam_conf::{ConfError, FaultKind, Files};
 use pam_dispatch::WrongCount;
-use pam_facts::known::KnownError;
+use pam_facts::known::{KnownError, NumberedError};
 use pam_facts::{FactsError, FactsFault};
 use pam_findings::accepted::AcceptError;
 use pam_paths::CursorError;
@@ -38,9 +38,9 @@ pub enum Fault {
     /// A fault of the configuration.
     #[error(transparent)]
     Conf(ConfError),
-    /// A fault of a table.
+    /// A fault of a table. Of access tables it is the one of this number.
     #[error(transparent)]
-    Table(TableError),
+    Table(NumberedError),
     /// A fault of a time table.
     #[error(transparent)]
     Time(TimeError),
@@ -121,7 +121,7 @@ fn row_of(fault: &Fault) -> Row
 {
     match fault {
         Fault::Conf(error) => conf_row(error.kind),
-        Fault::Table(error) => table_row(error.fault),
+        Fault::Table(error) => table_row(error.error.fault),
         Fault::Time(error) => time_row(error.fault),
         Fault::Facts(error) => facts_row(error.fault),
         Fault::Accept(error) => accept_row(*error),
@@ -214,6 +214,43 @@ fn table_file(error: &TableError) -> Option<&'static [u8]>
     Some(table_name(error.table).as_bytes())
 }
 
+/// Returns the line of a row, with a place in a table. One with a number above 1 is named with it.
+fn line_in(
+    alloc: Global,
+    row: Row,
+    table: &[u8],
+    number: usize,
+    at: u64,
+) -> Result<Vec<u8>, AllocError>
+    ensures { IfOk result (λ text. text.items ≡ spec.line_of (row_view row) (spec.place_in_table number (Some table.now) at)) }
+{
+    if number > 1 {
+        return line(
+            alloc,
+            row,
+            &[
+                Piece::Bytes(b" "),
+                Piece::Bytes(table),
+                Piece::Bytes(b"["),
+                Piece::Number(number as u64),
+                Piece::Bytes(b"]:"),
+                Piece::Number(at),
+            ],
+        );
+    }
+    line_at(alloc, row, Some(table), at)
+}
+
+/// Returns the line of a fault of a table. An access table after the first is named with its number.
+fn table_line(alloc: Global, row: Row, error: &NumberedError) -> Result<Vec<u8>, AllocError>
+    ensures { IfOk result (λ text. text.items ≡ spec.line_of (row_view row) (spec.table_place error.now)) }
+{
+    match table_file(&error.error) {
+        Some(table) => line_in(alloc, row, table, error.number, u64::from(error.error.line)),
+        None => line(alloc, row, &[]),
+    }
+}
+
 /// Returns the place of a fault of a time table, if it has one.
 fn time_file(fault: TimeFault) -> Option<&'static [u8]>
     ensures { option_map (λ name. name.now) result ≡ spec.time_file fault }
@@ -267,7 +304,7 @@ pub fn fault_text(alloc: Global, fault: &Fault, files: &Files) -> Result<Vec<u8>
     let row = row_of(fault);
     match fault {
         Fault::Conf(error) => line_at(alloc, row, conf_file(files, error), error.line as u64),
-        Fault::Table(error) => line_at(alloc, row, table_file(error), u64::from(error.line)),
+        Fault::Table(error) => table_line(alloc, row, error),
         Fault::Time(error) => line_at(alloc, row, time_file(error.fault), u64::from(error.line)),
         Fault::Facts(error) => line_at(alloc, row, facts_file(error.fault), u64::from(error.line)),
         Fault::Accept(error) => line_at(alloc, row, accept_file(*error), u64::from(error.line())),

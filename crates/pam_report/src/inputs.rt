@@ -49,11 +49,19 @@ pub struct TableFile {
     pub bytes: Vec<u8>,
 }
 
+/// The access tables, in the order in which they are read. Both lists are empty where there is none.
+#[derive(Drop)]
+pub struct AccessFiles {
+    /// The path under which each was read.
+    pub paths: Texts,
+    pub contents: Texts,
+}
+
 /// The tables that modules read, as far as they are given.
 #[derive(Drop)]
 pub struct TableFiles {
     pub groups: Option<TableFile>,
-    pub access: Option<TableFile>,
+    pub access: AccessFiles,
     pub time: Option<TableFile>,
 }
 
@@ -62,6 +70,9 @@ pub struct TableFiles {
 pub struct CheckInputs {
     /// The position from which on the files are those that only the second folder has; without a second folder the number of files.
     pub vendor_start: usize,
+    /// By the position of each file, whether it is a link that leads out of the folder from which it was read; files past its end are
+    /// none. No finding at such a file shows a word of it.
+    pub outside: Vec<bool>,
     /// The paths at which a module is there, as rules write them; `None` if that is not known.
     pub there: Option<NameList>,
     /// The tables that are named, and those of a root that are there.
@@ -113,7 +124,8 @@ pub enum Inputs {
     /// For `show` and `decide`.
     Stack(Files),
     Access {
-        table: Vec<u8>,
+        /// The contents of the access tables, in the order in which they are read.
+        tables: Texts,
         groups: Option<Vec<u8>>,
     },
     Time {

@@ -16,12 +16,13 @@ pub use fault::{
     usage_status, usage_text,
 };
 pub use inputs::{
-    CheckInputs, InputError, Inputs, KnowledgeInputs, SideInputs, TableFile, TableFiles,
+    AccessFiles, CheckInputs, InputError, Inputs, KnowledgeInputs, SideInputs, TableFile,
+    TableFiles,
 };
 pub use names::{kind_name, problem_name, stack_of};
 pub use report::{
-    AskedModule, CheckReply, CompareReply, GraphReply, Outcome, Outcomes, OutcomesReply,
-    PageRenderer, PathsPage, ReleasedReply, Reply, RunReply, StackReply, Status, Trace, path_at,
-    reply_to,
+    AccessReply, AskedModule, CheckReply, CompareReply, GraphReply, Outcome, Outcomes,
+    OutcomesReply, PageRenderer, PathsPage, ReleasedReply, Reply, RunReply, StackReply, Status,
+    Trace, path_at, reply_to,
 };
 pub use tables::{TablePaths, table_problem_level, table_problem_name};

@@ -59,6 +59,7 @@ pub fn problem_name(problem: Problem) -> &'static str
         Problem::NotCounted { .. } => "S22 NotCounted",
         Problem::UnknownModule => "S25 UnknownModule",
         Problem::SuccessNeverCounts => "S26 SuccessNeverCounts",
+        Problem::LinkOutside => "S27 LinkOutside",
     }
 }
 
@@ -70,7 +71,7 @@ pub fn stack_of(problem: Problem) -> Option<(usize, Kind)>
         Problem::LetsNobodyIn { service, kind }
         | Problem::TooLarge { service, kind }
         | Problem::OtherAnswers { service, kind, .. } => Some((service, kind)),
-        Problem::LetsAnybodyIn { service } => Some((service, Kind::Auth)),
+        Problem::LetsAnybodyIn { service, .. } => Some((service, Kind::Auth)),
         _ => None,
     }
 }

@@ -53,7 +53,7 @@ pub use paths::PathsPage;
 use paths::{PageRequest, answer_paths};
 pub use released::ReleasedReply;
 pub use renderer::PageRenderer;
-pub use replies::Reply;
+pub use replies::{AccessReply, Reply};
 pub use show::StackReply;
 use show::{ShowRequest, shown_by};
 use std::alloc::Global;
@@ -220,10 +220,11 @@ fn reply_about_service<'a>(
         }
         Task::Decide { kind, codes, .. } => decided(alloc, service, *kind, codes, files),
         Task::Access {
+            tables,
             login,
             arguments,
             ..
-        } => answer_access(alloc, service, *login, arguments, inputs),
+        } => answer_access(alloc, service, *login, arguments, tables, inputs),
         Task::Time { login, moment, .. } => {
             let moment = moment_of(*moment);
             answer_time(alloc, service, *login, moment, inputs)

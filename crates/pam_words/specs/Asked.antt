@@ -30,8 +30,9 @@ pub record LoginText : Type 0 where
   pub rhost : Text
   pub tty : Text
 
+-- the tables are one or more, in the order in which they are given
 pub record AccessTask : Type 0 where
-  pub table : Text
+  pub tables : List Text
   pub groups : Option Text
   pub login : LoginText
   pub arguments : List Text
@@ -50,7 +51,7 @@ pub data AnswersText : Type 0 where
 pub record KnowledgeText : Type 0 where
   pub modules : List Text
   pub login : LoginText
-  pub access : Option Text
+  pub access : List Text
   pub time : Option Text
   pub groups : Option Text
   pub returns : Option Text
@@ -77,13 +78,14 @@ pub record GraphTask : Type 0 where
   pub format : GraphFormat
   pub knowledge : KnowledgeText
 
--- the services are all if none is named. The folders of modules, two tables, a group file, a facts file and an accept file may be named
+-- the services are all if none is named. The folders of modules, access tables, a time table, a group file, a facts file and an accept
+-- file may be named
 pub record CheckTask : Type 0 where
   pub source : SourceText
   pub services : List Text
   pub fail_on : LevelName
   pub modules : List Text
-  pub access : Option Text
+  pub access : List Text
   pub time : Option Text
   pub groups : Option Text
   pub facts : Option Text

@@ -41,7 +41,7 @@ check_task rows =
       services = services_among (texts_of (codes "name") rows);
       fail_on = level;
       modules = texts_of (codes "modules") rows;
-      access = first_of (codes "access") rows;
+      access = texts_of (codes "access") rows;
       time = first_of (codes "time") rows;
       groups = first_of (codes "group") rows;
       facts = first_of (codes "facts") rows;
@@ -94,7 +94,7 @@ knowledge_of answers rows =
     Ok (record {
       modules = texts_of (codes "modules") rows;
       login = login_of rows;
-      access = first_of (codes "access") rows;
+      access = texts_of (codes "access") rows;
       time = first_of (codes "time") rows;
       groups = first_of (codes "group") rows;
       returns = first_of (codes "returns") rows;
@@ -142,7 +142,7 @@ graph_task rows =
 -- `access SERVICE [ARGUMENT]...`
 abbrev pub access_task : List Row → Result TaskText Refusal
 access_task rows = Ok (access (record {
-  table = text_of (codes "access") rows;
+  tables = texts_of (codes "access") rows;
   groups = first_of (codes "group") rows;
   login = login_of rows;
   arguments = texts_of (codes "argument") rows;

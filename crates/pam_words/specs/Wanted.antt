@@ -58,7 +58,7 @@ abbrev pub knowledge_view : KnowledgeSource → KnowledgeText
 knowledge_view k = record {
   modules = map (λ s. s.now) k.modules.items;
   login = login_view k.login;
-  access = option_copied k.tables.access;
+  access = map (λ s. s.now) k.tables.access.items;
   time = option_copied k.tables.time;
   groups = option_copied k.tables.groups;
   returns = option_copied k.returns;
@@ -73,7 +73,7 @@ task_view (Check source services fail_on given) = spec.check (record {
   services = services;
   fail_on = fail_on;
   modules = map (λ s. s.now) given.modules.items;
-  access = option_copied given.tables.access;
+  access = map (λ s. s.now) given.tables.access.items;
   time = option_copied given.tables.time;
   groups = option_copied given.tables.groups;
   facts = option_copied given.facts;
@@ -91,8 +91,8 @@ task_view (Compare old new service kind given) = spec.compare (record {
 })
 task_view (Show source kind release) = spec.show (record { source = source_view source; kind = kind; release = release })
 task_view (Decide source kind codes) = spec.decide (source_view source) kind codes.items
-task_view (Access table groups login arguments) = spec.access (record {
-  table = table.now;
+task_view (Access tables groups login arguments) = spec.access (record {
+  tables = map (λ s. s.now) tables.items;
   groups = option_copied groups;
   login = login_view login;
   arguments = arguments;

@@ -17,6 +17,10 @@ option_rule id = record (new_rule id) { long = Some id; value_names = 1 }
 abbrev pub required_option_rule : Text → Rule
 required_option_rule id = record (option_rule id) { required = true }
 
+-- `--ID VALUE`, once or more
+abbrev pub required_options_rule : Text → Rule
+required_options_rule id = record (required_option_rule id) { action = Some Append }
+
 -- a word that may be left out
 abbrev pub optional_rule : Text → Rule
 optional_rule id = record (new_rule id) { value_names = 1 }
@@ -60,6 +64,10 @@ with_json app = with_rule app (flag_rule (codes "json"))
 abbrev pub with_settings : App → App
 with_settings app = with_rule app (repeated_option_rule (codes "set"))
 
+-- the option that names access tables
+abbrev pub with_access : App → App
+with_access app = with_rule app (repeated_option_rule (codes "access"))
+
 -- `NAME SERVICE`
 abbrev pub service_app : Text → App
 service_app name = with_rule (new_app name) (required_rule (codes "service"))
@@ -69,11 +77,12 @@ abbrev pub with_source : App → App
 with_source app =
     with_rule (with_options app (codes "dir" ∷ codes "vendor-dir" ∷ codes "conf" ∷ codes "root" ∷ [])) (repeated_option_rule (codes "with"))
 
--- the options of a check: the folders of modules, two tables and a group file, a facts file, an accept file and the level that fails
+-- the options of a check: the folders of modules, access tables, a time table and a group file, a facts file, an accept file and the
+-- level that fails
 abbrev pub with_check : App → App
 with_check app =
-    with_options (with_rule app (repeated_option_rule (codes "modules")))
-    (codes "access" ∷ codes "time" ∷ codes "group" ∷ codes "facts" ∷ codes "accept" ∷ codes "fail-on" ∷ [])
+    with_options (with_access (with_rule app (repeated_option_rule (codes "modules"))))
+    (codes "time" ∷ codes "group" ∷ codes "facts" ∷ codes "accept" ∷ codes "fail-on" ∷ [])
 
 -- `check [SERVICE]...`
 unfoldable pub check_app : App
@@ -128,7 +137,7 @@ abbrev pub with_login : App → App
 with_login app = with_options app (codes "user" ∷ codes "rhost" ∷ codes "tty" ∷ [])
 
 abbrev pub with_tables : App → App
-with_tables app = with_options app (codes "access" ∷ codes "time" ∷ codes "group" ∷ codes "returns" ∷ [])
+with_tables app = with_options (with_access app) (codes "time" ∷ codes "group" ∷ codes "returns" ∷ [])
 
 abbrev pub with_moment : App → App
 with_moment app = with_options app (codes "at" ∷ codes "at-unix" ∷ codes "zone" ∷ [])
@@ -153,21 +162,22 @@ outcomes_app = with_knowledge (with_answers (with_json (stack_app (codes "outcom
 unfoldable pub graph_app : App
 graph_app = with_knowledge (with_answers (with_options (stack_app (codes "graph")) (codes "format" ∷ [])))
 
--- `NAME SERVICE`, with the table given by `--NAME`, a user and a terminal
-abbrev pub login_app : Text → App
-login_app name =
+-- `NAME SERVICE`, with the option that names what a login is looked up in, a user and a terminal
+abbrev pub login_app : Text → Rule → App
+login_app name looked_up =
     with_rule (with_rule (with_rule (service_app name)
-    (required_option_rule name)) (required_option_rule (codes "user")))
+    looked_up) (required_option_rule (codes "user")))
     (option_rule (codes "tty"))
 
 -- `access SERVICE [ARGUMENT]...`
 unfoldable pub access_app : App
 access_app =
-    with_rule (with_json (with_options (login_app (codes "access")) (codes "group" ∷ codes "rhost" ∷ []))) (repeated_rule (codes "argument"))
+    with_rule (with_json (with_options (login_app (codes "access") (required_options_rule (codes "access")))
+    (codes "group" ∷ codes "rhost" ∷ []))) (repeated_rule (codes "argument"))
 
 -- `time SERVICE`
 unfoldable pub time_app : App
-time_app = with_json (with_moment (login_app (codes "time")))
+time_app = with_json (with_moment (login_app (codes "time") (required_option_rule (codes "time"))))
 
 -- the version of the program, and the toolchain that proved it
 abbrev pub version : Text

@@ -140,10 +140,10 @@ pub(crate) const MODULES: ArgRow = ArgRow {
 };
 
 pub(crate) const HOST_ACCESS: ArgRow = ArgRow {
-    form: ArgForm::Optional,
+    form: ArgForm::RepeatedOption,
     id: "access",
     name: "FILE",
-    help: "The access table of pam_access.so, in place of that of the root",
+    help: "An access table of pam_access.so, in place of those of the root; may be repeated",
 };
 
 pub(crate) const HOST_TIME: ArgRow = ArgRow {
@@ -245,10 +245,10 @@ pub(crate) const TTY: ArgRow = ArgRow {
 };
 
 pub(crate) const ACCESS: ArgRow = ArgRow {
-    form: ArgForm::Optional,
+    form: ArgForm::RepeatedOption,
     id: "access",
     name: "FILE",
-    help: "The access table of pam_access.so; needs --user",
+    help: "An access table of pam_access.so; needs --user; may be repeated",
 };
 
 pub(crate) const TIME: ArgRow = ArgRow {
@@ -307,11 +307,11 @@ pub(crate) const ZONE: ArgRow = ArgRow {
     help: "The POSIX zone rule of --at-unix; UTC0 if left out",
 };
 
-pub(crate) const ACCESS_TABLE: ArgRow = ArgRow {
-    form: ArgForm::Required,
+pub(crate) const ACCESS_TABLES: ArgRow = ArgRow {
+    form: ArgForm::RequiredRepeated,
     id: "access",
     name: "FILE",
-    help: "The table",
+    help: "A table; may be repeated: they are read in turn until a line matches",
 };
 
 pub(crate) const TIME_TABLE: ArgRow = ArgRow {

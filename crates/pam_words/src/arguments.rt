@@ -20,6 +20,8 @@ pub(crate) enum ArgForm {
     RepeatedOption,
     /// A required option `--ID NAME`.
     Required,
+    /// A required option `--ID NAME`, once or more.
+    RequiredRepeated,
     /// An option `--ID NAME` for a number.
     Number,
     /// An option `--ID` without a value.
@@ -88,7 +90,7 @@ pub(crate) enum Argument {
     At,
     AtUnix,
     Zone,
-    AccessTable,
+    AccessTables,
     TimeTable,
     TableUser,
     Json,
@@ -154,7 +156,7 @@ impl Argument {
             Argument::At => rows::AT,
             Argument::AtUnix => rows::AT_UNIX,
             Argument::Zone => rows::ZONE,
-            Argument::AccessTable => rows::ACCESS_TABLE,
+            Argument::AccessTables => rows::ACCESS_TABLES,
             Argument::TimeTable => rows::TIME_TABLE,
             Argument::TableUser => rows::TABLE_USER,
             Argument::Json => rows::JSON,

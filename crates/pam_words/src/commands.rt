@@ -1,7 +1,7 @@
 //! The commands and their arguments, with their help.
 
 use crate::arguments::Argument::{
-    self, Accept, Access, AccessTable, After, Answers, AreFiles, AreRoots, Asks, At, AtUnix,
+    self, Accept, Access, AccessTables, After, Answers, AreFiles, AreRoots, Asks, At, AtUnix,
     Before, Conf, Decision, Dir, Facts, FailOn, Format, Group, HostAccess, HostTime, Json, Limit,
     Modules, Release, Returns, Rhost, Root, Set, SetByName, TableUser, Time, TimeTable, Tty, User,
     VendorDir, With, Zone,
@@ -127,11 +127,11 @@ pub(crate) static GRAPHS: [CommandRow; 2] = [
 pub(crate) static LOOKUPS: [CommandRow; 2] = [
     CommandRow {
         name: "access",
-        about: "Looks a login up in an access table",
+        about: "Looks a login up in access tables",
         examples: examples::ACCESS,
         args: &[
             SERVICE,
-            AccessTable,
+            AccessTables,
             TableUser,
             Tty,
             Group,

@@ -224,9 +224,12 @@ fn decide<'a>(alloc: Global, matches: &ArgMatches<'a>) -> Result<Task<'a>, Usage
 fn access<'a>(alloc: Global, matches: &ArgMatches<'a>) -> Result<Task<'a>, Usage>
     ensures { GivesTask (access_task (rows_of (found_of matches.now))) result }
 {
+    let Ok(tables) = knowledge::names(alloc, matches, "access") else {
+        return Err(Usage::Memory);
+    };
     match texts(alloc, matches, "argument") {
         Ok(arguments) => Ok(Task::Access {
-            table: text(matches, "access"),
+            tables,
             groups: value(matches, "group"),
             login: login(matches),
             arguments,

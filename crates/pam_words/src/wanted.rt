@@ -96,10 +96,11 @@ pub enum GraphFormat {
 }
 
 /// The names of the group file and the tables that modules read, as far as they are given.
-#[derive(Clone, Copy)]
+#[derive(Drop)]
 pub struct TableNames<'a> {
     pub groups: Option<&'a str>,
-    pub access: Option<&'a str>,
+    /// In the order in which they are given, which is that in which they are read.
+    pub access: Vec<&'a str>,
     pub time: Option<&'a str>,
 }
 
@@ -200,9 +201,9 @@ pub enum Task<'a> {
         kind: Kind,
         codes: Vec<Code>,
     },
-    /// Looks up a login in an access table. The arguments are those of pam_access(8).
+    /// Looks up a login in access tables, in the order in which they are given. The arguments are those of pam_access(8).
     Access {
-        table: &'a str,
+        tables: Vec<&'a str>,
         groups: Option<&'a str>,
         login: Login<'a>,
         arguments: Texts,

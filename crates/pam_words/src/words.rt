@@ -34,6 +34,7 @@ fn arg<'a>(alloc: Global, row: ArgRow) -> Arg<'a>
         ArgForm::Optional => arg.long(row.id),
         ArgForm::RepeatedOption => arg.long(row.id).action(ArgAction::Append),
         ArgForm::Required => arg.long(row.id).required(true),
+        ArgForm::RequiredRepeated => arg.long(row.id).required(true).action(ArgAction::Append),
         ArgForm::Number => arg.long(row.id).value_parser(number_parser()),
         ArgForm::Flag => arg.long(row.id).action(ArgAction::SetTrue),
     }

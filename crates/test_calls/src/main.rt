@@ -12,6 +12,8 @@
 //!   argument (`-` for none), or a time table; `separators ARGUMENT...`: whether one is a separator without a value.
 //! - `measure WHAT COUNT FILE...`: what is measured of a stack.
 //! - `fact KIND PATH [ARGUMENT]...`: the class of the module at this path, and the codes that it can answer.
+//!
+//! The tests of what no command shows are here too, above all libraries, so that no library is proved again for its tests.
 #![tactic(auto)]
 
 ghost use Rattle.std.specs.Prelude.{◌≤◌, length};
@@ -25,6 +27,8 @@ mod pages;
 mod refusals;
 mod released;
 mod stacks;
+#[cfg(test)]
+mod tests;
 
 use anyhow::Error;
 use pam_paths::{Explorer, Free, Path};
@@ -118,7 +122,7 @@ fn test(rt: &HostRuntime, words: &[&str]) -> Result<(), Error> {
 }
 
 /// Runs each line of standard input as a test.
-fn tests(rt: &HostRuntime) -> Result<(), Error> {
+fn test_lines(rt: &HostRuntime) -> Result<(), Error> {
     for line in BufReader::new(rt.alloc(), rt.reader())?.lines(rt.alloc()) {
         let line = line?;
         println!(rt; "> {line}")?;
@@ -137,7 +141,7 @@ fn words(rt: &HostRuntime) -> io::Result<Vec<String>> {
 /// Runs the test of the words, or without words that of each line of standard input.
 fn run(rt: &HostRuntime, words: &[String]) -> Result<(), Error> {
     if words.is_empty() {
-        return tests(rt);
+        return test_lines(rt);
     }
     let words: Vec<&str> = words.iter().map(|word| word.as_str()).collect(rt.alloc())?;
     test(rt, &words)

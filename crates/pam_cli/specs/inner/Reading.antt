@@ -5,6 +5,7 @@ use Rattle.std.specs.Bool.{beq}
 use Rattle.std.specs.Global.{Global}
 use Rattle.std.specs.Option.{option_copied}
 use Rattle.clap.specs.Words.{Text}
+use Rattle.pam_conf.specs.Files.{Named}
 use Rattle.pam_conf.specs.declared.rule.Kind.{Kind}
 use Rattle.pam_text.specs.Members.{Member}
 use Rattle.pam_report.specs.Inputs.{fits_check, fits_knowledge, has_named_tables}
@@ -21,6 +22,7 @@ use Rattle.pam_words.specs.declared.wanted.LevelName.{LevelName}
 use Rattle.pam_words.specs.declared.wanted.Login.{Login}
 use Rattle.pam_words.specs.declared.wanted.Task.TheVariants.{Check, Compare, Access}
 use Rattle.pam_words.specs.declared.wanted.CheckFiles.{CheckFiles}
+use Rattle.pam_cli.specs.Links.{AreLinks}
 use Rattle.pam_cli.specs.Sources.{IsInSource, IsUnread}
 use Rattle.pam_cli.specs.System.{Told}
 use Rattle.pam_cli.specs.Reading.{AreOthers, AreTables, AreKnownTables, IsFile, HasKnowledge, HasModules, IsOfKnowledge, IsOfCheck, IsReading}
@@ -58,11 +60,12 @@ IsCompareReading told old new named result =
     (candidates : List (Text × Text)) (service : Option (Bor Text)) (kind : Option Kind) → IsReading told candidates (Compare old new service kind named) result
 
 -- what a check is given besides the configuration, whose files from this position on only the second folder has
-abbrev pub IsGivenReading : Told → ℕ → ConfSource → CheckFiles → Result CheckInputs InputError → Type 0
-IsGivenReading told vendor_start source named (Ok given) =
+abbrev pub IsGivenReading : Told → List (Text × Text) → List Named → ℕ → ConfSource → CheckFiles → Result CheckInputs InputError → Type 0
+IsGivenReading told candidates files vendor_start source named (Ok given) =
     (given.vendor_start ≡ vendor_start) × (fits_check named given ≡ true) × AreTables told true true source named.tables given.tables
     × AreOthers told named given × HasModules source named.modules.items given.there
-IsGivenReading told vendor_start source named (Err error) = IsUnread (λ name. IsInSource source name ⊎ IsOfCheck named name) error
+    × AreLinks told candidates source files vendor_start given.outside.items
+IsGivenReading told candidates files vendor_start source named (Err error) = IsUnread (λ name. IsInSource source name ⊎ IsOfCheck named name) error
 
 -- what is known besides the configuration, for each task about paths
 abbrev pub IsKnownReading : Told → ConfSource → KnowledgeSource → Result KnowledgeInputs InputError → Type 0
@@ -75,9 +78,10 @@ IsKnownReading told source named (Ok given) =
 IsKnownReading told source named (Err error) = IsUnread (IsOfKnowledge source named) error
 
 -- what is read for each `access` of these files
-abbrev pub IsAccessReading : Told → Bor Text → Option (Bor Text) → Result Inputs InputError → Type 0
-IsAccessReading told table groups result =
-    (candidates : List (Text × Text)) (login : Login) (arguments : List Text) → IsReading told candidates (Access table groups login arguments) result
+abbrev pub IsAccessReading : Told → List (Bor Text) → Option (Bor Text) → Result Inputs InputError → Type 0
+IsAccessReading told tables groups result =
+    (candidates : List (Text × Text)) (named : Vec (Bor Text) Global) (login : Login) (arguments : List Text)
+    → tables ≡ named.items → IsReading told candidates (Access named groups login arguments) result
 
 -- what is read for each task about this source with what is known of answers
 abbrev pub IsKnowledgeReading : Told → List (Text × Text) → ConfSource → KnowledgeSource → Result Inputs InputError → Type 0

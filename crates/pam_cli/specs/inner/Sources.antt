@@ -1,12 +1,9 @@
 -- For private contracts and proofs alone: what is read of a source.
-use Rattle.std.specs.Prelude.{◌≡◌, ◌⊎◌, ⊤, true, false, ℕ, List, [], ◌∷◌, ◌++◌, Option, map}
-use Rattle.std.specs.Cmp.Lexicographic.{slice_cmp}
-use Rattle.std.specs.List.{AllByRecursion}
-use Rattle.std.specs.Ordering.{is_lt, nat_cmp}
+use Rattle.std.specs.Prelude.{◌≡◌, ◌⊎◌, true, false, ℕ, List, [], ◌∷◌, ◌++◌, Option, map}
 use Rattle.clap.specs.Words.{Text}
 use Rattle.pam_conf.specs.declared.rule.Form.{Form}
 use Rattle.pam_cli.specs.declared.reading.sources.SourceFiles.{SourceFiles}
-use Rattle.pam_cli.specs.Sources.{AddsNamed, IsHidden, IsKept, is_given}
+use Rattle.pam_cli.specs.Sources.{AddsNamed, AreInOrder, IsHidden, IsKept, is_given}
 use Rattle.pam_cli.specs.System.{PlaceText, Told, entry_at, shown}
 use Rattle.pam_cli.specs.System as system
 
@@ -39,11 +36,6 @@ ReadsEntry told above folder name old new =
 
 abbrev pub AddsEntry : Told → Option PlaceText → PlaceText → Text → SourceFiles → SourceFiles → Type 0
 AddsEntry told above folder name old new = LeavesEntry told above folder name old new ⊎ ReadsEntry told above folder name old new
-
--- no name comes before an earlier one, in byte order
-abbrev pub AreInOrder : List Text → Type 0
-AreInOrder [] = ⊤
-AreInOrder (name ∷ names) = AllByRecursion (λ later. is_lt (slice_cmp nat_cmp later name) ≡ false) names × AreInOrder names
 
 -- the files of the first names of a folder are added, and the names that are left come in order after theirs
 pub record AddsBefore (told : Told) (above : Option PlaceText) (folder : PlaceText) (left : List Text) (old new : SourceFiles) : Type 0 where

@@ -6,6 +6,7 @@ ghost use Rattle.pam_cli.specs.Reading.{AreTables, IsNamed, IsNamedTable, IsOfTa
 ghost use Rattle.pam_cli.specs.Sources.{IsInSource, IsUnread};
 ghost use Rattle.pam_cli.specs.System.{place_view};
 
+use crate::reading::access::access_files;
 use crate::reading::files::{named_file, unread};
 use crate::system::{Held, Place, System};
 use pam_report::{InputError, TableFile, TableFiles};
@@ -17,16 +18,13 @@ use std::io::ErrorKind;
 /// The group file of a system.
 const GROUPS: &str = "etc/group";
 
-/// The access table of a system.
-const ACCESS: &str = "etc/security/access.conf";
-
 /// The time table of a system.
 const TIME: &str = "etc/security/time.conf";
 
 /// What is looked up in the tables of a system.
 #[derive(Clone, Copy)]
 pub(super) struct LookedUp {
-    /// A login, in the group file and the access table.
+    /// A login, in the group file and the access tables.
     pub(super) login: bool,
     /// A login at a moment, in the time table.
     pub(super) moment: bool,
@@ -42,7 +40,7 @@ fn named_table<S: System>(system: &S, alloc: Global, name: &str) -> Result<Table
 }
 
 /// Reads a table of a system, if it is there.
-fn table_at<S: System>(
+pub(super) fn table_at<S: System>(
     system: &S,
     alloc: Global,
     place: Place<'_>,
@@ -103,20 +101,20 @@ fn table_of<S: System>(
     }
 }
 
-/// Reads the group file, the access table and the time table that are named, or else those of the root that are there: the first two
+/// Reads the group file, the access tables and the time table that are named, or else those of the root that are there: the first two
 /// if a login is looked up, and the time table if its moment is looked up too.
 pub(super) fn table_files<S: System>(
     system: &S,
     alloc: Global,
     source: ConfSource<'_>,
-    named: TableNames<'_>,
+    named: &TableNames<'_>,
     looked_up: LookedUp,
 ) -> Result<TableFiles, InputError>
-    ensures ok { IfOk result (AreTables (S.told system.now) looked_up.login looked_up.moment source.entry named.entry) }
-    ensures error { IfErr result (IsUnread (λ n. IsInSource source.entry n ⊎ IsOfTables named.entry n)) }
+    ensures ok { IfOk result (AreTables (S.told system.now) looked_up.login looked_up.moment source.entry named.now) }
+    ensures error { IfErr result (IsUnread (λ n. IsInSource source.entry n ⊎ IsOfTables named.now n)) }
 {
     let groups = table_of(system, alloc, source, named.groups, GROUPS, looked_up.login)?;
-    let access = table_of(system, alloc, source, named.access, ACCESS, looked_up.login)?;
+    let access = access_files(system, alloc, source, &named.access, looked_up.login)?;
     let time = table_of(system, alloc, source, named.time, TIME, looked_up.moment)?;
     Ok(TableFiles {
         groups,

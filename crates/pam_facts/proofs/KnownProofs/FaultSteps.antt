@@ -10,14 +10,16 @@ use Rattle.pam_tables.specs.declared.error.TableFault.{TableFault}
 use Rattle.pam_tables.specs.declared.error.TableFault.TheVariants.{Memory}
 use Rattle.pam_tables.specs.declared.times.error.TimeFault.{TimeFault}
 use Rattle.pam_tables.specs.declared.times.error.TimeFault.TheVariants as times
-use Rattle.pam_facts.specs.known.Answers.{IsFault, IsTableFault, IsTimeFault, read_as}
+use Rattle.pam_facts.specs.known.Access.{IsTableFault}
+use Rattle.pam_facts.specs.known.Answers.{IsFault, IsTimeFault, read_as}
 use Rattle.pam_facts.specs.known.Knowledge.{fault_told, first_fault}
 use Rattle.pam_facts.specs.known.inner.Sets.{TellsIfAny}
 use Rattle.pam_facts.specs.declared.known.error.KnownError.{KnownError}
 use Rattle.pam_facts.specs.declared.known.error.KnownError.TheVariants as known
+use Rattle.pam_facts.specs.declared.known.error.NumberedError.{NumberedError}
 
 -- a fault of one reading is that of another
-table_fault_of : {A B : Type 0} (fault : TableFault) (line : ℕ) → (A → B) → IsTableFault fault line A → IsTableFault fault line B
+pub table_fault_of : {A B : Type 0} (fault : TableFault) (line : ℕ) → (A → B) → IsTableFault fault line A → IsTableFault fault line B
 table_fault_of Memory line f h = h
 table_fault_of fault line f h = f h
 
@@ -26,19 +28,23 @@ time_fault_of times.Memory line f h = h
 time_fault_of fault line f h = f h
 
 pub is_fault_of : {A B : Type 0} (e : KnownError) → (A → B) → IsFault e A → IsFault e B
-is_fault_of (known.Table e) f h = table_fault_of e.fault e.line f h
+is_fault_of (known.Table e) f h = table_fault_of e.error.fault e.error.line f h
 is_fault_of (known.Time e) f h = time_fault_of e.fault e.line f h
 
+-- the fault of a table that is the only one of its kind, or the first
+abbrev pub first : TableError → NumberedError
+first e = record { number = 1; error = e }
+
 table_fails : {T : Type 0} (table : Table) (fault : TableFault) (line : ℕ) (read : Result T (TableFault × ℕ)) → FailsAt fault line read →
-    IsTableFault fault line (read_as table read ≡ Err (known.Table (record { table = table; fault = fault; line = line })))
+    IsTableFault fault line (read_as table read ≡ Err (known.Table (first (record { table = table; fault = fault; line = line }))))
 table_fails table Memory line read h = h
 table_fails table fault line read h = ap (read_as table) h
 
 -- a fault of a table's bytes is one of the table
 pub read_fails : {T : Type 0} (table : Table) (e : TableError) (read : Result T (TableFault × ℕ)) → e.table ≡ table → FailsAt e.fault e.line read →
-    IsFault (known.Table e) (read_as table read ≡ Err (known.Table e))
+    IsFault (known.Table (first e)) (read_as table read ≡ Err (known.Table (first e)))
 read_fails table e read same h =
-    subst (λ (t : Table). IsFault (known.Table e) (read_as t read ≡ Err (known.Table e))) same (table_fails e.table e.fault e.line read h)
+    subst (λ (t : Table). IsFault (known.Table (first e)) (read_as t read ≡ Err (known.Table (first e)))) same (table_fails e.table e.fault e.line read h)
 
 -- the remaining numbers, after one more
 next_numbers : (n i : ℕ) → i < n → range_with_len (i + 1) (n - i) ≡ (i + 1) ∷ range_with_len (i + 1 + 1) (n - (i + 1))

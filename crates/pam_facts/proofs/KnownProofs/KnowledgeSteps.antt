@@ -20,7 +20,7 @@ use Rattle.pam_facts.specs.known.inner.Sets.{Lets}
 use Rattle.pam_facts.specs.known.Tables.{TablesText}
 use Rattle.pam_facts.specs.declared.known.error.KnownError.{KnownError}
 use Rattle.pam_facts.specs.declared.known.error.KnownError.TheVariants as known
-use Rattle.pam_facts.proofs.KnownProofs.FaultSteps.{is_fault_of, read_fails}
+use Rattle.pam_facts.proofs.KnownProofs.FaultSteps.{first, is_fault_of, read_fails}
 use Rattle.pam_facts.proofs.KnownProofs.ReaderSteps.{no_lines}
 
 module _ (kind : Kind) (login : LoginText) (tables : TablesText) (items : Items) where
@@ -65,11 +65,11 @@ module _ (kind : Kind) (login : LoginText) (tables : TablesText) (items : Items)
       returns_fail e is = ap after_groups read ∙ ap (after_tables groups) none ∙ ap (after_returns groups) is
 
       pub returns_fault : (bytes : List ℕ) (e : TableError) → tables.returns ≡ Some bytes → e.table ≡ Returns → FailsAt e.fault e.line (returns_of bytes) →
-          IsFault (known.Table e) (told_knowledge kind login tables items ≡ Err (known.Table e))
+          IsFault (known.Table (first e)) (told_knowledge kind login tables items ≡ Err (known.Table (first e)))
       returns_fault bytes e given same h =
-          is_fault_of {A = read_as Returns (returns_of bytes) ≡ Err (known.Table e)}
-          {B = told_knowledge kind login tables items ≡ Err (known.Table e)} (known.Table e)
-          (λ is. returns_fail (known.Table e) (ap returns_read given ∙ is)) (read_fails Returns e (returns_of bytes) same h)
+          is_fault_of {A = read_as Returns (returns_of bytes) ≡ Err (known.Table (first e))}
+          {B = told_knowledge kind login tables items ≡ Err (known.Table (first e))} (known.Table (first e))
+          (λ is. returns_fail (known.Table (first e)) (ap returns_read given ∙ is)) (read_fails Returns e (returns_of bytes) same h)
 
       all_read : (lines : List ReturnLine) → returns_read tables.returns ≡ Ok lines →
           told_knowledge kind login tables items ≡ Ok (codes_with groups lines)

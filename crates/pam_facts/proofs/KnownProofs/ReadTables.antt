@@ -8,7 +8,7 @@ use Rattle.pam_conf.specs.declared.rule.Kind.{Kind}
 use Rattle.pam_tables.specs.declared.error.Table.{Table}
 use Rattle.pam_tables.specs.declared.error.Table.TheVariants.{Access, Group, Returns}
 use Rattle.pam_tables.specs.declared.error.TableError.{TableError}
-use Rattle.pam_facts.specs.known.Answers.{access_read, time_read}
+use Rattle.pam_facts.specs.known.Answers.{access_read, if_any, time_read}
 use Rattle.pam_facts.specs.known.Knowledge.{numbers, reads_access}
 use Rattle.pam_facts.specs.known.Reads.{IsOfRead, TablesRead, is_read, reads_time, tables_read}
 use Rattle.pam_facts.specs.known.inner.Sets.{all_given, number_reads, of_groups, of_module, some_read}
@@ -27,7 +27,7 @@ table_more a b Returns g c r h = r h
 -- where more tables are read
 of_more : (a b : TablesRead) (e : KnownError) → (a.groups ≡ true → b.groups ≡ true) → (a.access ≡ true → b.access ≡ true)
     → (a.time ≡ true → b.time ≡ true) → (a.returns ≡ true → b.returns ≡ true) → IsOfRead a e → IsOfRead b e
-of_more a b (known.Table e) g c t r h = table_more a b e.table g c r h
+of_more a b (known.Table e) g c t r h = table_more a b e.error.table g c r h
 of_more a b (known.Time e) g c t r h = t h
 
 module_more : (access time other later : Bool) (e : KnownError) → (access ≡ true → other ≡ true) → (time ≡ true → later ≡ true)
@@ -61,7 +61,7 @@ module _ (kind : Kind) (tables : TablesText) (items : Items) where
       (tables_read kind tables items) e (λ f. absurd (cc)) (λ x. x) (λ x. x) (λ f. absurd (cc)) h
 
   pub returns_are_read : (e : TableError) (bytes : List ℕ) → e.table ≡ Returns → tables.returns ≡ Some bytes
-      → IsOfRead (tables_read kind tables items) (known.Table e)
+      → IsOfRead (tables_read kind tables items) (known.Table (record { number = 1; error = e }))
   returns_are_read e bytes is given = ap (is_read (tables_read kind tables items)) is ∙ ap is_some given
 
 -- ---- what is read is given
@@ -87,12 +87,13 @@ reader_gives : {A : Type 0} (reads : Bool) (given : Option A) → is_some (if re
 reader_gives true given h = h
 reader_gives false given h = absurd (cc)
 
-access_given : (tables : TablesText) (items : Items) → list_any (reads_access tables items) (numbers items) ≡ true → is_some tables.access ≡ true
+access_given : (tables : TablesText) (items : Items) → list_any (reads_access tables items) (numbers items) ≡ true →
+    is_some (if_any tables.access) ≡ true
 unfolding access_read
 access_given tables items h =
-    any_gives (reads_access tables items) (numbers items) (is_some tables.access)
-    (λ n some. module_gives (λ m. is_some (access_read tables m)) (module_at n items) (is_some tables.access)
-    (λ m reads. reader_gives _ tables.access reads) some) h
+    any_gives (reads_access tables items) (numbers items) (is_some (if_any tables.access))
+    (λ n some. module_gives (λ m. is_some (access_read tables m)) (module_at n items) (is_some (if_any tables.access))
+    (λ m reads. reader_gives _ (if_any tables.access) reads) some) h
 
 time_given : (kind : Kind) (tables : TablesText) (items : Items) → list_any (reads_time kind tables items) (numbers items) ≡ true → is_some tables.time ≡ true
 unfolding time_read

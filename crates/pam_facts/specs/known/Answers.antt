@@ -1,5 +1,5 @@
 -- The code of a module that reads a table: pam_access(8), pam_time(8).
-use Rattle.std.specs.Prelude.{◌≡◌, ℕ, ◌==◌, Bool, ◌&&◌, not, nat_eq, if◌then◌else◌, List, codes, Option, None, Result, Ok, Err}
+use Rattle.std.specs.Prelude.{◌≡◌, ℕ, ◌==◌, Bool, ◌&&◌, not, nat_eq, if◌then◌else◌, List, [], ◌∷◌, codes, Option, None, Some, Result, Ok, Err}
 use Rattle.std.specs.List.{after_last, list_any, starts_with}
 use Rattle.std.specs.Option.{option_map, option_or}
 use Rattle.std.specs.Str.{bytes_eq}
@@ -8,16 +8,13 @@ use Rattle.pam_conf.specs.Walk.{same_kind}
 use Rattle.pam_conf.specs.declared.rule.Kind.{Kind}
 use Rattle.pam_conf.specs.declared.rule.Kind.TheVariants.{Account}
 use Rattle.pam_dispatch.specs.State.{perm_denied, success}
-use Rattle.pam_tables.specs.Access.{access_answer, table_of}
 use Rattle.pam_tables.specs.Groups.{Group}
 use Rattle.pam_tables.specs.Login.{LoginText}
 use Rattle.pam_tables.specs.Options.{options_of}
 use Rattle.pam_tables.specs.declared.access.AccessAnswer.{AccessAnswer}
 use Rattle.pam_tables.specs.declared.access.AccessAnswer.TheVariants as access
 use Rattle.pam_tables.specs.declared.error.Table.{Table}
-use Rattle.pam_tables.specs.declared.error.Table.TheVariants.{Access}
 use Rattle.pam_tables.specs.declared.error.TableFault.{TableFault}
-use Rattle.pam_tables.specs.declared.error.TableFault.TheVariants as tables
 use Rattle.pam_tables.specs.times.Reading.{rules_of}
 use Rattle.pam_tables.specs.times.Times.{answer_of}
 use Rattle.pam_tables.specs.declared.times.error.TimeError.{TimeError}
@@ -25,15 +22,13 @@ use Rattle.pam_tables.specs.declared.times.error.TimeFault.{TimeFault}
 use Rattle.pam_tables.specs.declared.times.error.TimeFault.TheVariants as times
 use Rattle.pam_tables.specs.declared.times.table.TimeAnswer.{TimeAnswer}
 use Rattle.pam_tables.specs.declared.times.table.TimeAnswer.TheVariants as answers
+use Rattle.pam_facts.specs.known.Access.{IsTableFault, numbered, result_map, tables_decide}
 use Rattle.pam_facts.specs.known.Tables.{TablesText, TimedText}
 use Rattle.pam_facts.specs.declared.known.error.KnownError.{KnownError}
 use Rattle.pam_facts.specs.declared.known.error.KnownError.TheVariants as known
+use Rattle.pam_facts.specs.declared.known.error.NumberedError.{NumberedError}
 
 -- ---- results of calls
-
-abbrev pub IsTableFault : TableFault → ℕ → Type 0 → Type 0
-IsTableFault tables.Memory line exact = line ≡ 0
-IsTableFault fault line exact = exact
 
 abbrev pub IsTimeFault : TimeFault → ℕ → Type 0 → Type 0
 IsTimeFault times.Memory line exact = line ≡ 0
@@ -41,13 +36,17 @@ IsTimeFault fault line exact = exact
 
 -- exactly this fault, unless an allocation failed, which has no line
 abbrev pub IsFault : KnownError → Type 0 → Type 0
-IsFault (known.Table e) exact = IsTableFault e.fault e.line exact
+IsFault (known.Table e) exact = IsTableFault e.error.fault e.error.line exact
 IsFault (known.Time e) exact = IsTimeFault e.fault e.line exact
 
--- a table, or its fault together with the kind of the table
+-- a fault of numbered tables among all faults
+abbrev pub among_known : {T : Type 0} → Result T NumberedError → Result T KnownError
+among_known (Ok t) = Ok t
+among_known (Err e) = Err (known.Table e)
+
+-- a table, or its fault together with the kind of the table, which is the only one of its kind or the first
 abbrev pub read_as : {T : Type 0} → Table → Result T (TableFault × ℕ) → Result T KnownError
-read_as table (Ok t) = Ok t
-read_as table (Err e) = Err (known.Table (record { table = table; fault = e.0; line = e.1 }))
+read_as table read = among_known (numbered table 1 read)
 
 -- a time table, or its fault
 abbrev pub read_times : {T : Type 0} → Result T TimeError → Result T KnownError
@@ -68,7 +67,7 @@ has_key key arguments = list_any (λ a. starts_with nat_eq a key) arguments
 unfoldable pub is_reader : List ℕ → List ℕ → ModuleText → Bool
 is_reader name key m = bytes_eq (name_of_path m.path) name && not (has_key key m.arguments)
 
--- a module that reads the access table of the system
+-- a module that reads the access tables of the system
 abbrev pub is_access_reader : ModuleText → Bool
 is_access_reader m = is_reader (codes "pam_access.so") (codes "accessfile=") m
 
@@ -76,9 +75,14 @@ is_access_reader m = is_reader (codes "pam_access.so") (codes "accessfile=") m
 abbrev pub is_time_reader : Kind → ModuleText → Bool
 is_time_reader kind m = same_kind kind Account && is_reader (codes "pam_time.so") (codes "conffile=") m
 
--- the access table, if it is given and the module reads it
-unfoldable pub access_read : TablesText → ModuleText → Option (List ℕ)
-access_read tables m = if is_access_reader m then tables.access else None
+-- tables, if there is one
+abbrev pub if_any : List (List ℕ) → Option (List (List ℕ))
+if_any [] = None
+if_any (table ∷ others) = Some (table ∷ others)
+
+-- the access tables, if one is given and the module reads them
+unfoldable pub access_read : TablesText → ModuleText → Option (List (List ℕ))
+access_read tables m = if is_access_reader m then if_any tables.access else None
 
 -- the time table, if it is given and the module reads it
 unfoldable pub time_read : Kind → TablesText → ModuleText → Option TimedText
@@ -95,14 +99,10 @@ abbrev pub time_code : TimeAnswer → ℕ
 time_code answers.Granted = success
 time_code (answers.Denied line) = perm_denied
 
-abbrev pub result_map : {X Y E : Type 0} → (X → Y) → Result X E → Result Y E
-result_map f (Ok x) = Ok (f x)
-result_map f (Err e) = Err e
-
--- the code that an access table tells, read with the arguments of the module
-unfoldable pub access_told : LoginText → List Group → List (List ℕ) → List ℕ → Result ℕ KnownError
-access_told login groups arguments bytes =
-    result_map (λ table. access_code (access_answer table login groups)) (read_as Access (table_of (options_of arguments) bytes))
+-- the code that access tables tell, read with the arguments of the module: that of the first table in which a line matches
+unfoldable pub access_told : LoginText → List Group → List (List ℕ) → List (List ℕ) → Result ℕ KnownError
+access_told login groups arguments contents =
+    among_known (result_map (λ decision. access_code decision.answer) (tables_decide login groups (options_of arguments) contents))
 
 -- the code that a time table tells
 unfoldable pub time_told : LoginText → TimedText → Result ℕ KnownError

@@ -25,7 +25,7 @@ use Rattle.pam_facts.specs.known.Tables.{TablesText}
 abbrev pub numbers : Items → List ℕ
 numbers items = range_with_len 1 (module_count items)
 
--- whether a module reads the access table
+-- whether a module reads the access tables
 abbrev pub reads_access : TablesText → Items → ℕ → Bool
 reads_access tables items number = option_map_or (λ m. is_some (access_read tables m)) (module_at number items) false
 
@@ -39,7 +39,7 @@ line_at lines items number = option_and_then (λ m. codes_for lines (name_of_pat
 
 -- ---- the first fault
 
--- the groups, from a file that is read only if a module reads the access table
+-- the groups, from a file that is read only if a module reads the access tables
 unfoldable pub groups_read : TablesText → Items → Result (List Group) KnownError
 groups_read tables items =
     if list_any (reads_access tables items) (numbers items) then option_map_or (λ bytes. read_as GroupTable (groups_of bytes)) tables.groups (Ok [])

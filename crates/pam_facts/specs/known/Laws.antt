@@ -1,5 +1,5 @@
 -- Laws of knowledge, and of the paths of a service for what is known: pam.conf(5), DESCRIPTION.
-use Rattle.std.specs.Prelude.{◌≡◌, ◌≢◌, ℕ, ◌<◌, All, List, [], filter, Ok}
+use Rattle.std.specs.Prelude.{◌≡◌, ◌≢◌, ℕ, ◌<◌, All, List, [], ◌∷◌, ◌++◌, filter, Ok, true}
 use Rattle.pam_codes.specs.declared.code.TheConstants.{CODES}
 use Rattle.pam_conf.specs.Files.{Folder}
 use Rattle.pam_conf.specs.Resolution.{resolved}
@@ -11,7 +11,14 @@ use Rattle.pam_text.specs.Members.{Member}
 use Rattle.pam_paths.specs.Cursor.{HasVerdict, Verdict}
 use Rattle.pam_paths.specs.Listing.{Allowance, IsAllowed, IsLawful, IsListing, IsListingAfter, IsListingBefore, anything, can_follow}
 use Rattle.pam_paths.specs.Paths.{Agrees, PathValue, path_through}
+use Rattle.pam_tables.specs.Access.{access_answer, table_of}
+use Rattle.pam_tables.specs.Groups.{Group}
 use Rattle.pam_tables.specs.Login.{LoginText}
+use Rattle.pam_tables.specs.Options.{Options, options_of}
+use Rattle.pam_tables.specs.declared.error.Table.TheVariants.{Access}
+use Rattle.pam_facts.specs.known.Access.{is_by_line, result_map, tables_decide}
+use Rattle.pam_facts.specs.known.Answers.{access_code, access_told, read_as}
+use Rattle.pam_facts.specs.declared.known.access.AccessDecision.{AccessDecision}
 use Rattle.pam_facts.specs.known.Knowledge.{Agree, allows_codes, knowledge}
 use Rattle.pam_facts.specs.known.Tables.{TablesText}
 
@@ -34,6 +41,22 @@ abbrev pub SameListingBefore : Type 0
 SameListingBefore =
     (n : ℕ) (one other : Allowance) (path_by : Assignment → PathValue) (key : List ℕ) (paths : List PathValue) →
     Agree n one other → IsListingBefore one n path_by key paths → IsListingBefore other n path_by key paths
+
+-- SEVERAL ACCESS TABLES
+
+-- one access table alone tells what it answers, or its fault
+abbrev pub OneTableAlone : Type 0
+OneTableAlone =
+    (login : LoginText) (groups : List Group) (arguments : List (List ℕ)) (bytes : List ℕ) →
+    access_told login groups arguments (bytes ∷ [])
+    ≡ result_map (λ table. access_code (access_answer table login groups)) (read_as Access (table_of (options_of arguments) bytes))
+
+-- where a line of some tables decides, the tables after them change nothing, unless one of them has a fault
+abbrev pub LaterTablesChangeNothing : Type 0
+LaterTablesChangeNothing =
+    (login : LoginText) (groups : List Group) (options : Options) (tables later : List (List ℕ)) (first decision : AccessDecision) →
+    tables_decide login groups options tables ≡ Ok first → is_by_line first.answer ≡ true →
+    tables_decide login groups options (tables ++ later) ≡ Ok decision → decision ≡ first
 
 -- EVERY MODULE MAY RETURN SOMETHING
 

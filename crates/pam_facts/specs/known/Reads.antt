@@ -23,8 +23,8 @@ pub record TablesRead : Type 0 where
   pub time : Bool
   pub returns : Bool
 
--- THE TABLES that are read for a stack: an access table or a time table that a module reads; the group file, if it is
--- given and a module reads the access table; and the returns file, if it is given
+-- THE TABLES that are read for a stack: the access tables or the time table that a module reads; the group file, if it is
+-- given and a module reads the access tables; and the returns file, if it is given
 abbrev pub tables_read : Kind → TablesText → Items → TablesRead
 tables_read kind tables items = record {
   groups = is_some tables.groups && list_any (reads_access tables items) (numbers items);
@@ -40,5 +40,5 @@ is_read read Returns = read.returns
 
 -- a fault is of a table that is read
 abbrev pub IsOfRead : TablesRead → KnownError → Type 0
-IsOfRead read (known.Table e) = is_read read e.table ≡ true
+IsOfRead read (known.Table e) = is_read read e.error.table ≡ true
 IsOfRead read (known.Time e) = read.time ≡ true

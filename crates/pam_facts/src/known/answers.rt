@@ -1,10 +1,10 @@
 //! The answer of one module, from the table that it reads.
 
-ghost use Rattle.std.specs.Prelude.{◌≡◌, ◌≤◌, ◌==◌, IfErr, false, nat_eq, not, length, true};
+ghost use Rattle.std.specs.Prelude.{◌≡◌, [], ◌≤◌, ◌==◌, IfErr, false, nat_eq, not, length, true};
 ghost use Rattle.std.specs.List.{list_any, starts_with, suffix_len};
-ghost use Rattle.std.specs.Option.{option_map};
+ghost use Rattle.std.specs.Option.{option_map, option_map_or};
 ghost use Rattle.pam_conf.specs.ItemsOf.{module_text};
-ghost use Rattle.pam_facts.specs.known.Answers.{access_code, access_read, is_access_reader, is_reader, is_time_reader};
+ghost use Rattle.pam_facts.specs.known.Answers.{access_code, access_read, if_any, is_access_reader, is_reader, is_time_reader};
 ghost use Rattle.pam_facts.specs.known.inner.Answers.{TellsError};
 ghost use Rattle.pam_facts.specs.known.Answers.{name_of_path, time_code, time_read, time_told};
 ghost use Rattle.pam_facts.specs.known.Reads.{IsOfRead};
@@ -13,12 +13,13 @@ ghost use Rattle.pam_facts.specs.known.Tables.{tables_view, timed_view};
 ghost use Rattle.pam_tables.specs.Login.{login_view};
 ghost use Rattle.pam_text.specs.Gives.{Gives};
 
+use crate::known::access::decide_access;
 use crate::known::error::KnownError;
 use crate::known::tables::{Tables, TimedTable};
 use pam_codes::Code;
 use pam_conf::{Kind, Module};
 use pam_tables::times::{TimeAnswer, TimeTable};
-use pam_tables::{AccessAnswer, AccessOptions, AccessTable, Groups, Login};
+use pam_tables::{AccessAnswer, AccessOptions, Groups, Login};
 use pam_text::Texts;
 use std::alloc::Global;
 
@@ -52,7 +53,7 @@ fn is_reader(name: &[u8], key: &[u8], module: &Module) -> bool
     name_of_path(&module.path) == name && !has_key(key, &module.arguments)
 }
 
-/// Whether a module reads the access table of the system, as in pam_access(8).
+/// Whether a module reads the access tables of the system, as in pam_access(8).
 pub fn is_access_reader(module: &Module) -> bool
     ensures { result ≡ is_access_reader (module_text «module».now) }
 {
@@ -66,13 +67,23 @@ pub fn is_time_reader(kind: Kind, module: &Module) -> bool
     kind == Kind::Account && is_reader(b"pam_time.so", b"conffile=", module)
 }
 
-/// Returns the access table, if it is given and the module reads it.
+/// Returns the access tables, if there are any.
+fn if_any(tables: Option<&Texts>) -> Option<&Texts>
+    ensures { option_map (λ t. t.now) result ≡ if_any (option_map_or (λ t. t.now) tables.entry []) }
+{
+    match tables {
+        Some(tables) if tables.len() > 0 => Some(tables),
+        _ => None,
+    }
+}
+
+/// Returns the access tables, if one is given and the module reads them.
 #[tactic(auto, unfolding(crate::specs::known::Answers::access_read))]
-pub(crate) fn access_read<'a>(tables: &Tables<'a>, module: &Module) -> Option<&'a [u8]>
-    ensures { option_map (λ b. b.now) result ≡ access_read (tables_view tables.now) (module_text «module».now) }
+pub(crate) fn access_read<'a>(tables: &Tables<'a>, module: &Module) -> Option<&'a Texts>
+    ensures { option_map (λ t. t.now) result ≡ access_read (tables_view tables.now) (module_text «module».now) }
 {
     if is_access_reader(module) {
-        tables.access
+        if_any(tables.access)
     } else {
         None
     }
@@ -112,19 +123,19 @@ fn time_code(answer: TimeAnswer) -> Code
     }
 }
 
-/// Returns the code of a module that reads this access table, with these options.
+/// Returns the code of a module that reads these access tables, with these options.
 pub(crate) fn access_told(
     alloc: Global,
     login: &Login<'_>,
     groups: &Groups,
     options: &AccessOptions<'_>,
-    bytes: &[u8],
+    tables: &Texts,
 ) -> Result<Code, KnownError>
-    ensures told { Gives (λ e. TellsError e) (λ code. code) result (told_under (login_view login.now) groups.now options.now bytes.now) }
+    ensures told { Gives (λ e. TellsError e) (λ code. code) result (told_under (login_view login.now) groups.now options.now tables.now) }
     ensures read { IfErr result (IsOfRead (of_module true false)) }
 {
-    match AccessTable::read(alloc, bytes, options) {
-        Ok(table) => Ok(access_code(table.decide(login, groups))),
+    match decide_access(alloc, login, groups, options, tables) {
+        Ok(decision) => Ok(access_code(decision.answer)),
         Err(error) => Err(KnownError::Table(error)),
     }
 }

@@ -4,7 +4,7 @@ ghost use Rattle.std.specs.Prelude.{◌≡◌, ◌≤◌, ℕ, IfErr, IfSome, So
 ghost use Rattle.std.specs.List.{list_any};
 ghost use Rattle.pam_conf.specs.ItemsOf.{module_text};
 ghost use Rattle.pam_conf.specs.Stack.{module_count};
-ghost use Rattle.pam_facts.specs.known.Answers.{access_told, name_of_path, time_told};
+ghost use Rattle.pam_facts.specs.known.Answers.{access_told, if_any, name_of_path, time_told};
 ghost use Rattle.pam_facts.specs.known.inner.Answers.{TellsError};
 ghost use Rattle.pam_facts.specs.known.Knowledge.{Knows, groups_read, knowledge, line_at, numbers, reads_access, told_knowledge};
 ghost use Rattle.pam_facts.specs.known.Reads.{IsOfRead, tables_read};
@@ -27,7 +27,7 @@ use pam_tables::{AccessOptions, Groups, Login, ReturnTable, Table, TableError, T
 use pam_text::Texts;
 use std::alloc::Global;
 
-/// Whether the module of a number reads the access table.
+/// Whether the module of a number reads the access tables.
 fn reads_access(stack: &Stack, tables: &Tables<'_>, number: usize) -> bool
     ensures { result ≡ reads_access (tables_view tables.now) stack.now number }
 {
@@ -37,7 +37,7 @@ fn reads_access(stack: &Stack, tables: &Tables<'_>, number: usize) -> bool
     }
 }
 
-/// Whether a module reads the access table.
+/// Whether a module reads the access tables.
 fn some_reads_access(stack: &Stack, tables: &Tables<'_>) -> bool
     ensures { result ≡ list_any (reads_access (tables_view tables.now) stack.now) (numbers stack.now) }
 {
@@ -49,7 +49,7 @@ fn some_reads_access(stack: &Stack, tables: &Tables<'_>) -> bool
     false
 }
 
-/// Returns the groups. Reads the group file only if a module reads the access table.
+/// Returns the groups. Reads the group file only if a module reads the access tables.
 #[tactic(auto, unfolding(crate::specs::known::Knowledge::groups_read))]
 fn groups_read<'a>(
     alloc: Global,
@@ -68,7 +68,7 @@ fn groups_read<'a>(
     }
 }
 
-/// The code that the access table gives under some options.
+/// The code that the access tables give under some options.
 #[derive(Drop)]
 struct AccessCode<'s> {
     options: AccessOptions<'s>,
@@ -79,7 +79,7 @@ struct AccessCode<'s> {
 #[derive(Drop)]
 struct Kept<'s> {
     by_time: Option<Code>,
-    /// A code for each of the options under which the access table was read.
+    /// A code for each of the options under which the access tables were read.
     by_options: Vec<AccessCode<'s>>,
 }
 
@@ -129,19 +129,19 @@ impl Lookup<'_, '_, '_> {
         None
     }
 
-    /// Returns the code that the access table gives. It is the same for equal options, so it is kept for them.
+    /// Returns the code that the access tables give. It is the same for equal options, so it is kept for them.
     #[tactic(auto, unfolding(crate::specs::known::Answers::access_told))]
     fn access_answer<'s>(
         &self,
         alloc: Global,
-        bytes: &[u8],
+        access: &Texts,
         arguments: &'s Texts,
         kept: &mut Kept<'s>,
     ) -> Result<Code, KnownError>
         requires kept { IsKept self.now kept.old }
-        requires table { (tables_view self.now.tables.now).access ≡ Some bytes.now }
+        requires table { if_any (tables_view self.now.tables.now).access ≡ Some access.now }
         ensures told { Gives (λ e. TellsError e) (λ code. code) result
-            (access_told (login_view self.now.login.now) self.now.groups arguments.now bytes.now) }
+            (access_told (login_view self.now.login.now) self.now.groups arguments.now access.now) }
         ensures read { IfErr result (IsOfRead (of_module true false)) }
         ensures kept { IsKept self.now kept.new }
     {
@@ -149,10 +149,10 @@ impl Lookup<'_, '_, '_> {
         if let Some(code) = self.kept_access(&options, kept) {
             return Ok(code);
         }
-        let code = access_told(alloc, self.login, &self.groups, &options, bytes)?;
+        let code = access_told(alloc, self.login, &self.groups, &options, access)?;
         match kept.by_options.push(AccessCode { options, code }) {
             Ok(()) => Ok(code),
-            Err(_) => Err(KnownError::Table(TableError::new(Table::Access, TableFault::Memory, 0))),
+            Err(_) => Err(KnownError::from(TableError::new(Table::Access, TableFault::Memory, 0))),
         }
     }
 
@@ -169,8 +169,8 @@ impl Lookup<'_, '_, '_> {
         ensures read { IfErr result (IsOfRead (module_reads self.now (module_text «module».now))) }
         ensures kept { IsKept self.now kept.new }
     {
-        if let Some(bytes) = access_read(self.tables, module) {
-            let code = self.access_answer(alloc, bytes, &module.arguments, kept)?;
+        if let Some(access) = access_read(self.tables, module) {
+            let code = self.access_answer(alloc, access, &module.arguments, kept)?;
             return Ok(Some(code));
         }
         match time_read(self.kind, self.tables, module) {
@@ -279,15 +279,15 @@ impl Lookup<'_, '_, '_> {
 
 /// Returns the codes that the modules of a stack of this kind may return for a login.
 ///
-/// A module `pam_access.so` returns what the access table says, read with the module's own arguments, unless one of
-/// them begins with `accessfile=`. A module `pam_time.so` returns what the time table says, for `account` only, unless
+/// A module `pam_access.so` returns what the first line of the access tables says that matches, read with the module's own
+/// arguments, unless one of them begins with `accessfile=`. A module `pam_time.so` returns what the time table says, for `account` only, unless
 /// an argument begins with `conffile=`. Granted is `success`, denied is `perm_denied`. Every other module may return
 /// the codes of its line in the returns file. If it has no line, it may return the codes that the facts say for this kind,
 /// or any code if no facts are given. A module that is not there returns `module_unknown` alone, whatever a table, the
 /// returns file or the facts say of it.
 ///
-/// Returns the first fault: of the group file, which is read only if a module reads the access table; then of the
-/// table that a module reads, in the order of the modules; then of the returns file. A failed allocation is `Memory`
+/// Returns the first fault: of the group file, which is read only if a module reads the access tables; then of the
+/// tables that a module reads, in the order of the modules; then of the returns file. A failed allocation is `Memory`
 /// of the kind of a table that is read, with line 0.
 pub fn known_answers(
     alloc: Global,

@@ -1,13 +1,21 @@
 //! Laws of the definitions that contracts use. Each is the contract of a function with an empty body.
 
 ghost use Rattle.pam_facts.specs.known.Laws.{CursorHasOneVerdict, EveryAssignmentHasOnePath, ListingIsNarrowed, ServiceHasOneListing};
-ghost use Rattle.pam_facts.specs.known.Laws.{KnowledgeIsLawful, KnownCodesAreSome, SameListing, SameListingAfter, SameListingBefore};
+ghost use Rattle.pam_facts.specs.known.Laws.{KnowledgeIsLawful, KnownCodesAreSome, LaterTablesChangeNothing, OneTableAlone};
+ghost use Rattle.pam_facts.specs.known.Laws.{SameListing, SameListingAfter, SameListingBefore};
 
 /// If two knowledges allow each module the same codes, they have the same listing, and the same parts of it.
 pub fn same_listing()
     ensures all { SameListing }
     ensures after { SameListingAfter }
     ensures before { SameListingBefore }
+{}
+
+/// The first line that matches decides, over all access tables in turn. One table alone tells what it told by itself, and a table
+/// after one of which a line decides changes nothing.
+pub fn access_tables()
+    ensures one { OneTableAlone }
+    ensures later { LaterTablesChangeNothing }
 {}
 
 /// What tables and a returns file tell leaves each module at least one code.

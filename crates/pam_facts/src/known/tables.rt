@@ -3,6 +3,7 @@
 use crate::facts::Facts;
 use jiff::civil::DateTime;
 use pam_conf::NameList;
+use pam_text::Texts;
 
 /// A time table, as in time.conf(5), and the moment of the login.
 #[derive(Clone, Copy)]
@@ -16,10 +17,10 @@ pub struct TimedTable<'a> {
 pub struct Tables<'a> {
     /// The paths at which a module is there, as rules write them.
     pub there: Option<&'a NameList>,
-    /// The group file that the access table refers to, as in group(5).
+    /// The group file that the access tables refer to, as in group(5).
     pub groups: Option<&'a [u8]>,
-    /// The access table, as in access.conf(5).
-    pub access: Option<&'a [u8]>,
+    /// The access tables, as in access.conf(5), in the order in which they are read. An empty list gives nothing.
+    pub access: Option<&'a Texts>,
     pub time: Option<TimedTable<'a>>,
     /// A returns file: the codes that modules may return, by module name.
     pub returns: Option<&'a [u8]>,

@@ -135,7 +135,7 @@ module _ (folder : Folder) where
   from-folder file line (problems.Released difference) first h = absurd (false≢true h)
   from-folder file line (problems.IncludedFromVendor is_at_include) first h = absurd (false≢true h)
   from-folder file line (problems.LetsNobodyIn service kind) first h = absurd (false≢true h)
-  from-folder file line (problems.LetsAnybodyIn service) first h = absurd (false≢true h)
+  from-folder file line (problems.LetsAnybodyIn service is_greeter) first h = absurd (false≢true h)
   from-folder file line problems.JumpPastEnd first h = absurd (false≢true h)
   from-folder file line problems.NeverAsked first h = absurd (false≢true h)
   from-folder file line (problems.NoModule is_dashed) first h = absurd (false≢true h)
@@ -148,6 +148,7 @@ module _ (folder : Folder) where
   from-folder file line (problems.BadArguments lack) first h = absurd (false≢true h)
   from-folder file line problems.EmptySeparator first h = absurd (false≢true h)
   from-folder file line problems.UnknownModule first h = absurd (false≢true h)
+  from-folder file line problems.LinkOutside first h = absurd (false≢true h)
   from-folder file line (problems.NotCounted counts) first h = absurd (false≢true h)
   from-folder file line problems.SuccessNeverCounts first h = absurd (false≢true h)
 

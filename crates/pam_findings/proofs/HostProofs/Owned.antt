@@ -102,7 +102,7 @@ module _ (folder : Folder) (start file : ℕ) (bytes : List ℕ) where
       (to_vendor folder start file h.rule h.includes)))
   to_spot line (problems.Walk fault) h = absurd h
   to_spot line (problems.LetsNobodyIn service kind) h = absurd h
-  to_spot line (problems.LetsAnybodyIn service) h = absurd h
+  to_spot line (problems.LetsAnybodyIn service is_greeter) h = absurd h
   to_spot line problems.JumpPastEnd h = absurd h
   to_spot line problems.NeverAsked h = absurd h
   to_spot line (problems.NoModule is_dashed) h = absurd h
@@ -119,6 +119,7 @@ module _ (folder : Folder) (start file : ℕ) (bytes : List ℕ) where
   to_spot line problems.EmptySeparator h = absurd h
   to_spot line problems.UnknownModule h = absurd h
   to_spot line problems.SuccessNeverCounts h = absurd h
+  to_spot line problems.LinkOutside h = absurd h
   to_spot line (problems.NotCounted counts) h = absurd h
 
   abbrev Has : Spot → Type 0

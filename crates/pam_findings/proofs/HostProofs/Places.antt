@@ -79,7 +79,7 @@ other_numbered n service kind =
     if nat_lt n 1 then problems.IncludedFromVendor (nat_lt 0 kind)
     else if nat_lt n 6 then problems.EmptySeparator
     else if nat_lt n 12 then problems.LetsNobodyIn service (kind_numbered kind)
-    else if nat_lt n 13 then problems.LetsAnybodyIn service
+    else if nat_lt n 13 then problems.LetsAnybodyIn service (nat_lt 0 kind)
     else if nat_lt n 14 then problems.NeverAsked
     else if nat_lt n 15 then problems.JumpPastEnd
     else if nat_lt n 16 then problems.NoModule (nat_lt 0 kind)
@@ -96,7 +96,8 @@ other_numbered n service kind =
     else if nat_lt n 33 then problems.NotCounted (nat_lt 0 kind)
     else if nat_lt n 34 then problems.Argument service arguments.Weak
     else if nat_lt n 36 then problems.UnknownModule
-    else problems.SuccessNeverCounts
+    else if nat_lt n 37 then problems.SuccessNeverCounts
+    else problems.LinkOutside
 
 -- the problem with this rank, service and kind
 problem_of : ℕ → ℕ → ℕ → Problem
@@ -166,6 +167,11 @@ of_nobody service Auth = refl
 of_nobody service Account = refl
 of_nobody service Password = refl
 of_nobody service Session = refl
+
+of_anybody : (service : ℕ) (is_greeter : Bool) → problem_of 62 service (if is_greeter then 1 else 0) ≡ problems.LetsAnybodyIn service is_greeter
+unfolding problem_of
+of_anybody service true = refl
+of_anybody service false = refl
 
 of_large : (service : ℕ) (kind : Kind) → problem_of 69 service (number_of_kind kind) ≡ problems.TooLarge service kind
 unfolding problem_of
@@ -240,7 +246,7 @@ of_problem (problems.Walk fault) = of_walk fault
 of_problem (problems.Released difference) = of_difference difference
 of_problem (problems.IncludedFromVendor is_at_include) = of_included is_at_include
 of_problem (problems.LetsNobodyIn service kind) = of_nobody service kind
-of_problem (problems.LetsAnybodyIn service) = refl
+of_problem (problems.LetsAnybodyIn service is_greeter) = of_anybody service is_greeter
 of_problem problems.NeverAsked = refl
 of_problem problems.JumpPastEnd = refl
 of_problem (problems.NoModule is_dashed) = of_missing is_dashed
@@ -255,6 +261,7 @@ of_problem (problems.CallerIsRoot is_daemon) = of_caller is_daemon
 of_problem problems.EmptySeparator = refl
 of_problem problems.UnknownModule = refl
 of_problem problems.SuccessNeverCounts = refl
+of_problem problems.LinkOutside = refl
 of_problem (problems.NotCounted counts) = of_half counts
 of_problem (problems.Argument argument wrong) = of_argument argument wrong
 of_problem (problems.BadArguments lack) = of_lack lack

@@ -22,7 +22,7 @@ use Rattle.pam_findings.specs.host.Problems.{compare_places, place_of}
 use Rattle.pam_findings.specs.host.Report.{IsFound, IsMetFinding, IsPlaced, IsReportOn}
 use Rattle.pam_findings.specs.host.inner.SoFar.{InStackAt, Shows, SoFar}
 use Rattle.pam_findings.specs.host.Modules.{Modules}
-use Rattle.pam_findings.specs.host.StackProblems.{ByVerdict, InItems, InWalk, IsCutOff}
+use Rattle.pam_findings.specs.host.StackProblems.{ByVerdict, InItems, InWalk, IsCutOff, StackAt, stack_at}
 use Rattle.pam_findings.specs.host.inner.Table.{Adds, ArePlaced, Puts, Removes, Table, finding_at, with_met}
 use Rattle.pam_findings.specs.host.Verdicts.{Verdict}
 use Rattle.pam_findings.specs.declared.host.met.Met.{Met}
@@ -41,10 +41,10 @@ use Rattle.pam_findings.proofs.HostProofs.Taking.{alike-finding, alike-shows}
 -- A PROBLEM OF A FILE IS NONE OF A STACK
 
 not-in-stack : (modules : Modules) (service : ℕ) (name : List ℕ) (kind : Kind) (faults : List ConfError) (items : Option Items)
-    (home : Option ℕ) (verdict : Verdict)
+    (home : StackAt) (verdict : Verdict)
     (spot : Spot)
     (folder : Folder) (start : ℕ) (bytes : List ℕ) (problem : Problem) → BytesHave folder start bytes spot.line problem →
-    InWalk faults spot problem ⊎ (InItems modules name kind items spot problem ⊎ ByVerdict service kind home verdict spot problem) → ⊥
+    InWalk faults spot problem ⊎ (InItems modules name kind items spot problem ⊎ ByVerdict home verdict spot problem) → ⊥
 not-in-stack modules service name kind faults items home verdict spot folder start bytes (problems.Fault fault) h (inl w) = w
 not-in-stack modules service name kind faults None home verdict spot folder start bytes (problems.Fault fault) h (inr (inl i)) = i
 not-in-stack modules service name kind faults (Some items) home verdict spot folder start bytes (problems.Fault fault) h (inr (inl i)) = i.3
@@ -60,7 +60,7 @@ not-in-stack modules service name kind faults (Some items) home verdict spot fol
 not-in-stack modules service name kind faults items home verdict spot folder start bytes (problems.IncludedFromVendor is_at_include) h (inr (inr v)) = v
 not-in-stack modules service name kind faults items home verdict spot folder start bytes (problems.Walk fault) h k = h
 not-in-stack modules service name kind faults items home verdict spot folder start bytes (problems.LetsNobodyIn of_service of_kind) h k = h
-not-in-stack modules service name kind faults items home verdict spot folder start bytes (problems.LetsAnybodyIn of_service) h k = h
+not-in-stack modules service name kind faults items home verdict spot folder start bytes (problems.LetsAnybodyIn of_service of_greeter) h k = h
 not-in-stack modules service name kind faults items home verdict spot folder start bytes problems.JumpPastEnd h k = h
 not-in-stack modules service name kind faults items home verdict spot folder start bytes (problems.NoModule is_dashed) h k = h
 not-in-stack modules service name kind faults items home verdict spot folder start bytes problems.NeverAsked h k = h
@@ -75,6 +75,7 @@ not-in-stack modules service name kind faults items home verdict spot folder sta
 not-in-stack modules service name kind faults items home verdict spot folder start bytes problems.EmptySeparator h k = h
 not-in-stack modules service name kind faults items home verdict spot folder start bytes problems.UnknownModule h k = h
 not-in-stack modules service name kind faults items home verdict spot folder start bytes problems.SuccessNeverCounts h k = h
+not-in-stack modules service name kind faults items home verdict spot folder start bytes problems.LinkOutside h k = h
 not-in-stack modules service name kind faults items home verdict spot folder start bytes (problems.NotCounted counts) h k = h
 not-in-stack modules service name kind faults items home verdict spot folder start bytes (problems.Argument argument wrong) h k = h
 not-in-stack modules service name kind faults items home verdict spot folder start bytes (problems.BadArguments lack) h k = h
@@ -125,7 +126,7 @@ module _ (host : Host) (named : List (List ℕ)) (found : Found) (ways : List (O
           absurd (elim stack [
             | inl own ↦
                 not-in-stack host.modules s (service_at host s) k (survey_at host s k).faults (survey_at host s k).items
-                (slice_get (survey_at host s k).reached 0) (V s k) spot
+                (stack_at host.folder s (service_at host s) k (survey_at host s k)) (V s k) spot
                 host.folder host.vendor_start b.0 spot.problem b.1 own
             | inr beside ↦ elim beside [
               | inl other ↦ subst (BytesHave host.folder host.vendor_start b.0 spot.line) other.problem b.1
@@ -133,7 +134,7 @@ module _ (host : Host) (named : List (List ℕ)) (found : Found) (ways : List (O
                 | inl jump ↦ subst (BytesHave host.folder host.vendor_start b.0 spot.line) jump.problem b.1
                 | inr walk ↦
                     not-in-stack host.modules s (service_at host s) k (beside_at host k).faults (survey_at host s k).items
-                    (slice_get (survey_at host s k).reached 0) (V s k) spot
+                    (stack_at host.folder s (service_at host s) k (survey_at host s k)) (V s k) spot
                     host.folder host.vendor_start b.0 spot.problem b.1 (inl walk)
               ]
             ]

@@ -64,11 +64,12 @@ module _ (modules : Modules) (name : List ℕ) (kind : Kind) (rule : ModuleText)
       inl (inr (inr (record { lack = lack; is = h.has; at = same-spot _ _ h.file h.line refl })))
   from-rule file line problems.UnknownModule h = inr (h.has, same-spot _ _ h.file h.line refl)
   from-rule file line (problems.LetsNobodyIn service of_kind) h = absurd h.has
-  from-rule file line (problems.LetsAnybodyIn service) h = absurd h.has
+  from-rule file line (problems.LetsAnybodyIn service is_greeter) h = absurd h.has
   from-rule file line (problems.TooLarge service of_kind) h = absurd h.has
   from-rule file line (problems.OtherAnswers service of_kind has_no_rule lets_nobody_in) h = absurd h.has
   from-rule file line problems.JumpPastEnd h = absurd h.has
   from-rule file line problems.SuccessNeverCounts h = absurd h.has
+  from-rule file line problems.LinkOutside h = absurd h.has
   from-rule file line (problems.NotCounted counts) h = absurd h.has
   from-rule file line (problems.Fault fault) h = absurd h.has
   from-rule file line (problems.Walk fault) h = absurd h.has

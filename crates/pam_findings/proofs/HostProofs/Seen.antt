@@ -1,5 +1,5 @@
 -- What is seen of a stack.
-use Rattle.std.proofs.Common.{◌≡◌, ◌⊎◌, ◌↔◌, ℕ, ◌++◌, false, List, [], length, refl, sym, ◌∙◌, ap, subst, inl, inr}
+use Rattle.std.proofs.Common.{◌≡◌, ◌⊎◌, ◌↔◌, ℕ, ◌++◌, Bool, false, List, [], length, refl, sym, ◌∙◌, ap, subst, inl, inr}
 use Rattle.std.proofs.Common.{Option, Some, None, Ok, slice_get}
 use Rattle.std.proofs.lemmas.Bool.{false≢true}
 use Rattle.pam_conf.specs.Files.{Folder}
@@ -14,11 +14,12 @@ use Rattle.pam_findings.specs.host.inner.Checking.{AddsStack}
 use Rattle.pam_findings.specs.host.FileProblems.{files_read}
 use Rattle.pam_findings.specs.host.Host.{InStackOf}
 use Rattle.pam_findings.specs.host.Inside.{HasJumpInside}
-use Rattle.pam_findings.specs.host.OtherAnswers.{HasOtherAnswer}
+use Rattle.pam_findings.specs.host.Callers.{is_greeter}
+use Rattle.pam_findings.specs.host.OtherAnswers.{HasOtherAnswer, is_only_included}
 use Rattle.pam_findings.specs.host.inner.Looked.{Asks, Judges, Looks, OfModules}
 use Rattle.pam_findings.specs.host.inner.Meeting.{Changes, also_met}
 use Rattle.pam_findings.specs.host.Modules.{Modules}
-use Rattle.pam_findings.specs.host.StackProblems.{ByVerdict, InItems, InStack, InWalk, IsCutOff}
+use Rattle.pam_findings.specs.host.StackProblems.{ByVerdict, InItems, InStack, InWalk, IsCutOff, StackAt, stack_at}
 use Rattle.pam_findings.specs.host.inner.Table.{Adds, Notes, Puts, Table, with_stack}
 use Rattle.pam_findings.specs.host.Verdicts.{IsVerdict, Refused, Verdict, never_asked_in}
 use Rattle.pam_findings.specs.declared.host.judging.Stacked.{Stacked}
@@ -30,32 +31,41 @@ use Rattle.pam_findings.specs.declared.host.stacks.Found.{Found}
 use Rattle.pam_findings.proofs.HostProofs.Adding.{adds-both, adds-iff, adds-none}
 use Rattle.pam_findings.proofs.HostProofs.Passes.{puts-both, puts-iff, settles-stack}
 
+-- WHICH STACK
+
+same-stack : (service : ℕ) (kind : Kind) (home home' : Option ℕ) (included included' greeter greeter' : Bool) → home ≡ home' → included ≡ included' →
+    greeter ≡ greeter' →
+    (let one : StackAt = record { service = service; kind = kind; home = home; is_only_included = included; is_greeter = greeter } in
+    let other : StackAt = record { service = service; kind = kind; home = home'; is_only_included = included'; is_greeter = greeter' } in one ≡ other)
+same-stack service kind home home' included included' greeter greeter' h i g = cc
+
 -- NOTHING BY A VERDICT THAT REFUSES
 
-pub none-by-refused : (service : ℕ) (kind : Kind) (home : Option ℕ) (spot : Spot) (problem : Problem) → ByVerdict service kind home Refused spot problem → ⊥
-none-by-refused service kind home spot (problems.LetsNobodyIn of_service of_kind) h = h.3
-none-by-refused service kind home spot (problems.LetsAnybodyIn of_service) h = false≢true h.3
-none-by-refused service kind home spot (problems.TooLarge of_service of_kind) h = absurd cc
-none-by-refused service kind home spot (problems.OtherAnswers of_service of_kind has_no_rule lets_nobody_in) h = h
-none-by-refused service kind home spot problems.JumpPastEnd h = h
-none-by-refused service kind home spot (problems.Fault fault) h = h
-none-by-refused service kind home spot (problems.Walk fault) h = h
-none-by-refused service kind home spot (problems.Released difference) h = h
-none-by-refused service kind home spot (problems.IncludedFromVendor is_at_include) h = h
-none-by-refused service kind home spot problems.NeverAsked h = h
-none-by-refused service kind home spot (problems.NoModule is_dashed) h = h
-none-by-refused service kind home spot problems.NoOther h = h
-none-by-refused service kind home spot problems.UnreachableName h = h
-none-by-refused service kind home spot problems.LeftOver h = h
-none-by-refused service kind home spot problems.JumpIntoInclude h = h
-none-by-refused service kind home spot problems.NoFunction h = h
-none-by-refused service kind home spot (problems.CallerIsRoot is_daemon) h = h
-none-by-refused service kind home spot (problems.Argument argument wrong) h = h
-none-by-refused service kind home spot (problems.BadArguments lack) h = h
-none-by-refused service kind home spot problems.EmptySeparator h = h
-none-by-refused service kind home spot problems.UnknownModule h = h
-none-by-refused service kind home spot problems.SuccessNeverCounts h = h.1
-none-by-refused service kind home spot (problems.NotCounted counts) h = h.1
+pub none-by-refused : (at : StackAt) (spot : Spot) (problem : Problem) → ByVerdict at Refused spot problem → ⊥
+none-by-refused at spot (problems.LetsNobodyIn of_service of_kind) h = h.3
+none-by-refused at spot (problems.LetsAnybodyIn of_service of_greeter) h = false≢true h.3
+none-by-refused at spot (problems.TooLarge of_service of_kind) h = absurd cc
+none-by-refused at spot (problems.OtherAnswers of_service of_kind has_no_rule lets_nobody_in) h = h
+none-by-refused at spot problems.JumpPastEnd h = h
+none-by-refused at spot (problems.Fault fault) h = h
+none-by-refused at spot (problems.Walk fault) h = h
+none-by-refused at spot (problems.Released difference) h = h
+none-by-refused at spot (problems.IncludedFromVendor is_at_include) h = h
+none-by-refused at spot problems.NeverAsked h = h
+none-by-refused at spot (problems.NoModule is_dashed) h = h
+none-by-refused at spot problems.NoOther h = h
+none-by-refused at spot problems.UnreachableName h = h
+none-by-refused at spot problems.LeftOver h = h
+none-by-refused at spot problems.JumpIntoInclude h = h
+none-by-refused at spot problems.NoFunction h = h
+none-by-refused at spot (problems.CallerIsRoot is_daemon) h = h
+none-by-refused at spot (problems.Argument argument wrong) h = h
+none-by-refused at spot (problems.BadArguments lack) h = h
+none-by-refused at spot problems.EmptySeparator h = h
+none-by-refused at spot problems.UnknownModule h = h
+none-by-refused at spot problems.LinkOutside h = h
+none-by-refused at spot problems.SuccessNeverCounts h = h.1
+none-by-refused at spot (problems.NotCounted counts) h = h.1
 
 -- WHAT A STACK MAY ASK
 
@@ -85,22 +95,25 @@ module _ (folder : Folder) (modules : Modules) (name : List ℕ) (service : ℕ)
   Walk : Spot → Type 0
   Walk spot = InWalk survey.faults spot spot.problem
 
+  abbrev At : StackAt
+  At = stack_at folder service name kind survey
+
   By : Verdict → Spot → Type 0
-  By verdict spot = ByVerdict service kind (slice_get survey.reached 0) verdict spot spot.problem
+  By verdict spot = ByVerdict At verdict spot spot.problem
 
   pub looks-none : survey.items ≡ None → (spots asked : List Spot) → Adds (λ spot. InWalk survey.faults spot spot.problem) [] spots →
       Looks folder modules name service kind survey spots asked asked (record { way_in = None; lets_nobody_in = false })
   looks-none none spots asked h = record {
     verdict = Refused;
     is_verdict = λ items stack. let k = (sound-of items stack).0 in let clash : Some items ≡ None = sym k ∙ none in absurd cc;
-    adds = adds-iff (λ spot. InWalk survey.faults spot spot.problem) (InStack modules service name kind survey Refused) [] spots
+    adds = adds-iff (λ spot. InWalk survey.faults spot spot.problem) (InStack folder modules service name kind survey Refused) [] spots
         (λ spot. (
           λ w. inl w,
           λ k. elim k [
             | inl w ↦ w
             | inr r ↦ elim r [
               | inl i ↦ absurd (subst (λ (o : Option Items). InItems modules name kind o spot spot.problem) none i)
-              | inr b ↦ absurd (none-by-refused service kind (slice_get survey.reached 0) spot spot.problem b)
+              | inr b ↦ absurd (none-by-refused At spot spot.problem b)
             ]
           ],
         ))
@@ -112,8 +125,8 @@ module _ (folder : Folder) (modules : Modules) (name : List ℕ) (service : ℕ)
   -- the parts of what is wrong with a stack of these items
   parts : (items : Items) → survey.items ≡ Some items → (verdict : Verdict) (spot : Spot) →
       ((InWalk survey.faults spot spot.problem ⊎ InItems modules name kind (Some items) spot spot.problem)
-      ⊎ ByVerdict service kind (slice_get survey.reached 0) verdict spot spot.problem)
-      ↔ InStack modules service name kind survey verdict spot
+      ⊎ ByVerdict At verdict spot spot.problem)
+      ↔ InStack folder modules service name kind survey verdict spot
   parts items there verdict spot = (
     λ k. elim k [
       | inl w ↦ elim w [
@@ -142,12 +155,12 @@ module _ (folder : Folder) (modules : Modules) (name : List ℕ) (service : ℕ)
     adds =
         let A : Spot → Type 0 = λ spot. InWalk survey.faults spot spot.problem in
         let B : Spot → Type 0 = λ spot. InItems modules name kind (Some items) spot spot.problem in
-        adds-iff (λ spot. A spot ⊎ B spot) (InStack modules service name kind survey Refused) [] spots
+        adds-iff (λ spot. A spot ⊎ B spot) (InStack folder modules service name kind survey Refused) [] spots
         (λ spot. (
           λ w. (parts items there Refused spot).0 (inl w),
           λ s. elim ((parts items there Refused spot).1 s) [
             | inl w ↦ w
-            | inr b ↦ absurd (none-by-refused service kind (slice_get survey.reached 0) spot spot.problem b)
+            | inr b ↦ absurd (none-by-refused At spot spot.problem b)
           ],
         ))
         (adds-both A B [] first spots h k);
@@ -158,19 +171,22 @@ module _ (folder : Folder) (modules : Modules) (name : List ℕ) (service : ℕ)
   pub looks-judged : (items : Items) → survey.items ≡ Some items → (first second spots asked more : List Spot) →
       Adds (λ spot. InWalk survey.faults spot spot.problem) [] first →
       Adds (λ spot. InItems modules name kind (Some items) spot spot.problem) first second →
-      (told : Told) (home : Option ℕ) → home ≡ slice_get survey.reached 0 →
-      (let at : Stacked = record { service = service; kind = kind; home = home } in Judges folder modules name at items second spots asked more told →
-      Looks folder modules name service kind survey spots asked more told)
-  looks-judged items there first second spots asked more h k told home is_home judged = record {
+      (told : Told) (home : Option ℕ) (included greeter : Bool) → home ≡ slice_get survey.reached 0 →
+      included ≡ is_only_included folder name survey → greeter ≡ is_greeter name →
+      (let at : Stacked = record { service = service; kind = kind; home = home; is_only_included = included; is_greeter = greeter } in
+      Judges folder modules name at items second spots asked more told → Looks folder modules name service kind survey spots asked more told)
+  looks-judged items there first second spots asked more h k told home included greeter is_home is_included is_a_greeter judged = record {
     verdict = judged.verdict;
     is_verdict = judged.is_verdict;
     adds =
         let A : Spot → Type 0 = λ spot. InWalk survey.faults spot spot.problem in
         let B : Spot → Type 0 = λ spot. InItems modules name kind (Some items) spot spot.problem in
-        let C : Spot → Type 0 = λ spot. ByVerdict service kind (slice_get survey.reached 0) judged.verdict spot spot.problem in
-        adds-iff (λ spot. (A spot ⊎ B spot) ⊎ C spot) (InStack modules service name kind survey judged.verdict) [] spots (parts items there judged.verdict)
+        let C : Spot → Type 0 = λ spot. ByVerdict At judged.verdict spot spot.problem in
+        adds-iff (λ spot. (A spot ⊎ B spot) ⊎ C spot) (InStack folder modules service name kind survey judged.verdict) [] spots (parts items there judged.verdict)
         (adds-both (λ spot. A spot ⊎ B spot) C [] second spots (adds-both A B [] first second h k)
-        (subst (λ (o : Option ℕ). Adds (λ spot. ByVerdict service kind o judged.verdict spot spot.problem) second spots) is_home judged.adds));
+        (subst (λ (at : StackAt). Adds (λ spot. ByVerdict at judged.verdict spot spot.problem) second spots)
+        (same-stack service kind home (slice_get survey.reached 0) included (is_only_included folder name survey) greeter (is_greeter name)
+        is_home is_included is_a_greeter) judged.adds));
     asks = subst (λ (o : Option Items). Adds (Asks o judged.verdict) asked more) (sym there) judged.asks;
     tells = judged.tells;
   }
@@ -197,7 +213,7 @@ adds-stack files rules modules other service name kind survey spots all middle t
       verdict = looks.verdict;
       is_verdict = subst (λ (r : Folder). IsVerdict r modules name kind looks.verdict) same looks.is_verdict;
       puts =
-          let S : SurveyText → Spot → Type 0 = λ s spot. InStack modules service name kind s looks.verdict spot in
+          let S : Folder → SurveyText → Spot → Type 0 = λ f s spot. InStack f modules service name kind s looks.verdict spot in
           let A : Folder → Spot → Type 0 = λ f spot. HasJumpInside f name kind spot ⊎ InWalk other.faults spot spot.problem in
           let O : Folder → Spot → Type 0 = λ f spot. HasOtherAnswer f service name kind looks.verdict spot in
           puts-iff (λ spot. A rules spot ⊎ Member spot all) (InStackOf files modules other service name kind looks.verdict) (with_stack service kind)
@@ -206,12 +222,16 @@ adds-stack files rules modules other service name kind survey spots all middle t
             λ w. elim w [
               | inl a ↦ inr (inr (subst (λ f. A f spot) same a))
               | inr m ↦ elim ((answers.each spot).1 m) [
-                | inl l ↦ inl (subst (λ s. S s spot) here (elim ((looks.adds.each spot).1 l) [ inl n ↦ absurd n | inr k ↦ k ]))
+                | inl l ↦
+                    let seen : S rules survey spot = elim ((looks.adds.each spot).1 l) [ inl n ↦ absurd n | inr k ↦ k ] in
+                    inl (subst (λ s. S files s spot) here (subst (λ f. S f survey spot) same seen))
                 | inr o ↦ inr (inl (subst (λ f. O f spot) same o))
               ]
             ],
             λ k. elim k [
-              | inl s ↦ inr ((answers.each spot).0 (inl ((looks.adds.each spot).0 (inr (subst (λ s. S s spot) (sym here) s)))))
+              | inl s ↦
+                  let seen : S rules survey spot = subst (λ f. S f survey spot) (sym same) (subst (λ t. S files t spot) (sym here) s) in
+                  inr ((answers.each spot).0 (inl ((looks.adds.each spot).0 (inr seen))))
               | inr r ↦ elim r [
                 | inl o ↦ inr ((answers.each spot).0 (inr (subst (λ f. O f spot) (sym same) o)))
                 | inr a ↦ inl (subst (λ f. A f spot) (sym same) a)

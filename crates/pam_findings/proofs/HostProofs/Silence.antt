@@ -31,9 +31,10 @@ use Rattle.pam_text.specs.Members.{Member}
 use Rattle.pam_paths.specs.Known.{may_answer}
 use Rattle.pam_paths.specs.Paths.{PathValue}
 use Rattle.pam_paths.proofs.Alike.{Member-codes}
+use Rattle.pam_findings.specs.host.Callers.{is_greeter}
 use Rattle.pam_findings.specs.host.FileProblems.{BytesHave, FileHas, files_read}
 use Rattle.pam_findings.specs.host.Host.{Host, Meets, beside_at, reads_at, service_at, survey_at}
-use Rattle.pam_findings.specs.host.Laws.{IsSilent, IsSoundStack, SilentHostIsSound}
+use Rattle.pam_findings.specs.host.Laws.{IsAskedFor, IsSilent, IsSoundStack, SilentHostIsSound}
 use Rattle.pam_findings.specs.host.Levels.{level_of, level_of_fault}
 use Rattle.pam_findings.specs.host.Problems.{compare_places, place_of}
 use Rattle.pam_findings.specs.host.Report.{IsFound, IsReportOn}
@@ -161,16 +162,18 @@ module _ (host : Host) (named : List (List ℕ)) (found : Table) (ways : List (O
         let note : Warning ≡ Note = met-note spot service kind (within, inr (inl (inr (inr (refl, refl, (refl, refl), is)))), λ e. absurd cc) in
         cc
 
-    not-nobody : LetsNobody (report.verdicts service kind) → ⊥
-    not-nobody h =
+    not-nobody : IsAskedFor host service kind → LetsNobody kind (report.verdicts service kind) → ⊥
+    not-nobody asked h =
         let spot : Spot = record { file = home; line = 0; problem = problems.LetsNobodyIn service kind } in
-        let note : Warning ≡ Note = met-note spot service kind (within, inr (inl (inr (inr (refl, refl, (refl, refl), h)))), λ e. absurd cc) in
+        let note : Warning ≡ Note = met-note spot service kind (within, inr (inl (inr (inr (refl, refl, (refl, refl), h, asked)))), λ e. absurd cc) in
         cc
 
-    not-anybody : kind ≡ Auth → IsSome (way_in_of (report.verdicts service kind)) → ⊥
-    not-anybody auth h =
-        let spot : Spot = record { file = home; line = 0; problem = problems.LetsAnybodyIn service } in
-        let note : Warning ≡ Note = met-note spot service kind (within, inr (inl (inr (inr (refl, auth, (refl, refl), h)))), λ e. absurd cc) in
+    not-anybody : kind ≡ Auth → IsAskedFor host service kind → is_greeter (service_at host service) ≡ false →
+        IsSome (way_in_of (report.verdicts service kind)) → ⊥
+    not-anybody auth asked other h =
+        let spot : Spot = record { file = home; line = 0; problem = problems.LetsAnybodyIn service false } in
+        let note : Warning ≡ Note =
+        met-note spot service kind (within, inr (inl (inr (inr (refl, auth, (refl, refl), h, asked, sym other)))), λ e. absurd cc) in
         cc
 
     sound-judged : (j : Judgement) → report.verdicts service kind ≡ Judged j → IsJudgement host.folder host.modules (service_at host service) kind j →
@@ -182,12 +185,12 @@ module _ (host : Host) (named : List (List ℕ)) (found : Table) (ways : List (O
       failing = j.failing;
       is_free = h.free;
       is_failing = h.failing;
-      somebody = λ other. elim (cases_Bool j.nobody) [
-        | inl t ↦ absurd (not-nobody (subst LetsNobody (sym is) (t, other)))
+      somebody = λ asked is_open. elim (cases_Bool j.nobody) [
+        | inl t ↦ absurd (not-nobody asked (subst (LetsNobody kind) (sym is) (t, is_open)))
         | inr f ↦ subst (SaysNobody (may_answer j.free) j.items) f h.nobody
       ];
-      nobody_else = λ auth answers allowed decides.
-          way-none auth j.way refl h.way (record { answers = answers; allowed = allowed; decides = decides });
+      nobody_else = λ auth asked other answers allowed decides.
+          way-none auth asked other j.way refl h.way (record { answers = answers; allowed = allowed; decides = decides });
       counts = λ auth lets number says succeeds.
           let numbered : IsNumbered j.items = (resolved_stack host.folder (service_at host service) kind j.items h.stack).0 in
           let range = asked-range (may_answer j.free) j.items number numbered succeeds.asks in
@@ -243,9 +246,10 @@ module _ (host : Host) (named : List (List ℕ)) (found : Table) (ways : List (O
             let note : Warning ≡ Note = met-note spot service kind (within, inr (inl (inr (inr (auth, here)))), λ e. absurd cc) in
             cc
 
-        way-none : kind ≡ Auth → (o : Option PathValue) → j.way ≡ o → SaysWayIn (may_answer j.failing) j.items o → LetsIn (may_answer j.failing) j.items → ⊥
-        way-none auth None none says lets = says lets
-        way-none auth (Some path) some says lets = not-anybody auth (ap (λ v. is_some (way_in_of v)) is ∙ ap is_some some)
+        way-none : kind ≡ Auth → IsAskedFor host service kind → is_greeter (service_at host service) ≡ false → (o : Option PathValue) → j.way ≡ o →
+            SaysWayIn (may_answer j.failing) j.items o → LetsIn (may_answer j.failing) j.items → ⊥
+        way-none auth asked other None none says lets = says lets
+        way-none auth asked other (Some path) some says lets = not-anybody auth asked other (ap (λ v. is_some (way_in_of v)) is ∙ ap is_some some)
 
     sound-by : (v : Verdict) → report.verdicts service kind ≡ v → IsVerdict host.folder host.modules (service_at host service) kind v →
         IsSoundStack host service kind

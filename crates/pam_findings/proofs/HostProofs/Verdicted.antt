@@ -6,10 +6,10 @@ use Rattle.pam_conf.specs.declared.rule.Kind.TheVariants.{Auth}
 use Rattle.pam_text.specs.Members.{Member}
 use Rattle.pam_findings.specs.host.Faillock.{has_task}
 use Rattle.pam_findings.specs.host.inner.Halves.{HalfIn, HalvesIn}
-use Rattle.pam_findings.specs.host.inner.Looked.{OfModules, VainIn}
+use Rattle.pam_findings.specs.host.inner.Looked.{OfModules, VainIn, at_of}
 use Rattle.pam_findings.specs.host.StackProblems.{ByVerdict}
 use Rattle.pam_findings.specs.host.inner.Table.{Adds}
-use Rattle.pam_findings.specs.host.Verdicts.{HasOther, Judged, Judgement, SaysWhoLogsIn}
+use Rattle.pam_findings.specs.host.Verdicts.{IsOpen, Judged, Judgement, SaysWhoLogsIn}
 use Rattle.pam_findings.specs.declared.host.judging.Stacked.{Stacked}
 use Rattle.pam_findings.specs.declared.host.problem.Problem.{Problem}
 use Rattle.pam_findings.specs.declared.host.problem.Problem.TheVariants as problems
@@ -63,10 +63,11 @@ adds-halves kind j old middle new auth h k =
     ))
     (adds-both (HalfIn j.items j.never_asked false) (HalfIn j.items j.never_asked true) old middle new h k)
 
-module _ (at : Stacked) (j : Judgement) (nobody anybody : Bool) (says_nobody : (nobody ≡ true) ↔ ((j.nobody ≡ true) × HasOther j.items))
-    (says_anybody : (anybody ≡ true) ↔ ((at.kind ≡ Auth) × IsSome j.way)) where
+module _ (at : Stacked) (j : Judgement) (nobody anybody : Bool)
+    (says_nobody : (nobody ≡ true) ↔ ((j.nobody ≡ true) × IsOpen at.kind j.items × (at.is_only_included ≡ false)))
+    (says_anybody : (anybody ≡ true) ↔ ((at.kind ≡ Auth) × IsSome j.way × (at.is_only_included ≡ false))) where
   By : Spot → Problem → Type 0
-  By spot problem = ByVerdict at.service at.kind at.home (Judged j) spot problem
+  By spot problem = ByVerdict (at_of at) (Judged j) spot problem
 
   abbrev Vain : Spot → Type 0
   Vain spot = VainIn at.kind j spot
@@ -77,17 +78,19 @@ module _ (at : Stacked) (j : Judgement) (nobody anybody : Bool) (says_nobody : (
   Parts : Spot → Type 0
   Parts spot =
       (((((nobody ≡ true) × (spot ≡ spot_of at (problems.LetsNobodyIn at.service at.kind)))
-      ⊎ ((anybody ≡ true) × (spot ≡ spot_of at (problems.LetsAnybodyIn at.service))))
+      ⊎ ((anybody ≡ true) × (spot ≡ spot_of at (problems.LetsAnybodyIn at.service at.is_greeter))))
       ⊎ OfModules problems.JumpPastEnd j.items (λ number. Member number j.jumps) spot)
       ⊎ Vain spot)
       ⊎ Half spot
 
   to-verdict : (spot : Spot) → Parts spot → By spot spot.problem
   unfolding By Parts
-  to-verdict spot (inl (inl (inl (inl h)))) = subst (λ (s : Spot). By s s.problem) (sym h.1) (refl, refl, (refl, refl), says_nobody.0 h.0)
+  to-verdict spot (inl (inl (inl (inl h)))) =
+      let k = says_nobody.0 h.0 in
+      subst (λ (s : Spot). By s s.problem) (sym h.1) (refl, refl, (refl, refl), (k.0, k.1), k.2)
   to-verdict spot (inl (inl (inl (inr h)))) =
       let k = says_anybody.0 h.0 in
-      subst (λ (s : Spot). By s s.problem) (sym h.1) (refl, k.0, (refl, refl), k.1)
+      subst (λ (s : Spot). By s s.problem) (sym h.1) (refl, k.0, (refl, refl), k.1, k.2, refl)
   to-verdict spot (inl (inl (inr m))) = subst (By spot) (sym m.of.problem_is) (m.number, m.of.rule, m.of.at, m.one)
   to-verdict spot (inl (inr v)) =
       let m = v.of in
@@ -109,11 +112,14 @@ module _ (at : Stacked) (j : Judgement) (nobody anybody : Bool) (says_nobody : (
   unfolding By Parts
   from-verdict file line (problems.LetsNobodyIn service kind) h =
       inl (inl (inl (inl (
-        says_nobody.1 h.3,
+        says_nobody.1 (h.3.0, h.3.1, h.4),
         same-spot _ _ h.2.0 h.2.1 (ap (λ s. problems.LetsNobodyIn s kind) h.0 ∙ ap (problems.LetsNobodyIn at.service) h.1),
       ))))
-  from-verdict file line (problems.LetsAnybodyIn service) h =
-      inl (inl (inl (inr (says_anybody.1 (h.1, h.3), same-spot _ _ h.2.0 h.2.1 (ap problems.LetsAnybodyIn h.0)))))
+  from-verdict file line (problems.LetsAnybodyIn service is_greeter) h =
+      inl (inl (inl (inr (
+        says_anybody.1 (h.1, h.3, h.4),
+        same-spot _ _ h.2.0 h.2.1 (ap (λ s. problems.LetsAnybodyIn s is_greeter) h.0 ∙ ap (problems.LetsAnybodyIn at.service) h.5),
+      ))))
   from-verdict file line problems.JumpPastEnd h =
       inl (inl (inr record { number = h.0; one = h.3; of = record { problem_is = refl; rule = h.1; at = h.2 } }))
   from-verdict file line problems.SuccessNeverCounts h =
@@ -155,21 +161,22 @@ module _ (at : Stacked) (j : Judgement) (nobody anybody : Bool) (says_nobody : (
   from-verdict file line (problems.BadArguments lack) h = absurd h
   from-verdict file line problems.EmptySeparator h = absurd h
   from-verdict file line problems.UnknownModule h = absurd h
+  from-verdict file line problems.LinkOutside h = absurd h
 
   pub adds-judged : (old first second third fourth new : List Spot) →
       Adds (λ spot. (nobody ≡ true) × (spot ≡ spot_of at (problems.LetsNobodyIn at.service at.kind))) old first →
-      Adds (λ spot. (anybody ≡ true) × (spot ≡ spot_of at (problems.LetsAnybodyIn at.service))) first second →
+      Adds (λ spot. (anybody ≡ true) × (spot ≡ spot_of at (problems.LetsAnybodyIn at.service at.is_greeter))) first second →
       Adds (OfModules problems.JumpPastEnd j.items (λ number. Member number j.jumps)) second third →
       Adds (VainIn at.kind j) third fourth →
       Adds (HalvesIn at.kind j) fourth new →
-      Adds (λ spot. ByVerdict at.service at.kind at.home (Judged j) spot spot.problem) old new
+      Adds (λ spot. ByVerdict (at_of at) (Judged j) spot spot.problem) old new
   unfolding By Parts
   adds-judged old first second third fourth new a b c d e =
       let A : Spot → Type 0 = λ spot. (nobody ≡ true) × (spot ≡ spot_of at (problems.LetsNobodyIn at.service at.kind)) in
-      let B : Spot → Type 0 = λ spot. (anybody ≡ true) × (spot ≡ spot_of at (problems.LetsAnybodyIn at.service)) in
+      let B : Spot → Type 0 = λ spot. (anybody ≡ true) × (spot ≡ spot_of at (problems.LetsAnybodyIn at.service at.is_greeter)) in
       let C : Spot → Type 0 = OfModules problems.JumpPastEnd j.items (λ number. Member number j.jumps) in
       adds-iff (λ spot. (((A spot ⊎ B spot) ⊎ C spot) ⊎ Vain spot) ⊎ Half spot)
-      (λ spot. ByVerdict at.service at.kind at.home (Judged j) spot spot.problem) old new
+      (λ spot. ByVerdict (at_of at) (Judged j) spot spot.problem) old new
       (λ spot. (to-verdict spot, from-verdict spot.file spot.line spot.problem))
       (adds-both (λ spot. ((A spot ⊎ B spot) ⊎ C spot) ⊎ Vain spot) Half old fourth new
       (adds-both (λ spot. (A spot ⊎ B spot) ⊎ C spot) Vain old third fourth

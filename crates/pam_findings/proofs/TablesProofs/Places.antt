@@ -94,46 +94,62 @@ of_problem (problems.Fault fault) = of_fault fault
 of_problem (problems.TimeFault fault) = of_time_fault fault
 of_problem (problems.Released difference) = of_difference difference
 
+abbrev finding_with : HostTable → ℕ → ℕ → TableProblem → TableFinding
+finding_with table number line problem = record { table = table; number = number; line = line; problem = problem }
+
+abbrev place_with : ℕ → ℕ → ℕ → ℕ → TablePlace
+place_with table number line rank = record { table = table; number = number; line = line; rank = rank }
+
 -- TWO PROBLEMS HAVE TWO PLACES
 pub finding-from_place : (one other : TableFinding) → place_of one ≡ place_of other → one ≡ other
 unfolding place_of
 finding-from_place one other h =
     let table : one.table ≡ other.table =
     sym (of_table one.table) ∙ ap (λ (p : TablePlace). table_numbered p.table) h ∙ of_table other.table in
+    let number : one.number ≡ other.number = ap (λ (p : TablePlace). p.number) h in
     let line : one.line ≡ other.line = ap (λ (p : TablePlace). p.line) h in
     let problem : one.problem ≡ other.problem =
     sym (of_problem one.problem) ∙ ap (λ (p : TablePlace). problem_of p.rank) h ∙ of_problem other.problem in
-    ap (λ (x : HostTable). let f : TableFinding = record { table = x; line = one.line; problem = one.problem } in f) table
-    ∙ ap (λ (x : ℕ). let f : TableFinding = record { table = other.table; line = x; problem = one.problem } in f) line
-    ∙ ap (λ (x : TableProblem). let f : TableFinding = record { table = other.table; line = other.line; problem = x } in f) problem
+    ap (λ (x : HostTable). finding_with x one.number one.line one.problem) table
+    ∙ ap (λ (x : ℕ). finding_with other.table x one.line one.problem) number
+    ∙ ap (λ (x : ℕ). finding_with other.table other.number x one.problem) line
+    ∙ ap (λ (x : TableProblem). finding_with other.table other.number other.line x) problem
 
 -- the same of a place by its parts
 pub apart-by-parts : (one other : TableFinding) (table rank : ℕ) → table ≡ rank_of_table one.table → rank ≡ rank_of one.problem →
-    place_of other ≡ record { table = table; line = one.line; rank = rank } → other ≡ one
+    place_of other ≡ record { table = table; number = one.number; line = one.line; rank = rank } → other ≡ one
 unfolding place_of
 apart-by-parts one other table rank table_is rank_is same =
     finding-from_place other one
     (same
-    ∙ ap (λ (x : ℕ). let p : TablePlace = record { table = x; line = one.line; rank = rank } in p) table_is
-    ∙ ap (λ (x : ℕ). let p : TablePlace = record { table = rank_of_table one.table; line = one.line; rank = x } in p) rank_is)
+    ∙ ap (λ (x : ℕ). place_with x one.number one.line rank) table_is
+    ∙ ap (λ (x : ℕ). place_with (rank_of_table one.table) one.number one.line x) rank_is)
 
 -- THE ORDER OF PLACES
 
-parts_cmp : (x y : ℕ × (ℕ × ℕ)) → Ordering
-parts_cmp x y = ordering_then (nat_cmp x.0 y.0) (ordering_then (nat_cmp x.1.0 y.1.0) (nat_cmp x.1.1 y.1.1))
+line_cmp : (x y : ℕ × (ℕ × ℕ)) → Ordering
+line_cmp x y = ordering_then (nat_cmp x.0 y.0) (ordering_then (nat_cmp x.1.0 y.1.0) (nat_cmp x.1.1 y.1.1))
+
+exact_lines : CmpEqualImpliesEq line_cmp
+unfolding line_cmp
+exact_lines = exact_pairs {B = ℕ × ℕ} nat_cmp (λ x y. ordering_then (nat_cmp x.0 y.0) (nat_cmp x.1 y.1)) exact_unsigned
+    (exact_pairs {B = ℕ} nat_cmp nat_cmp exact_unsigned exact_unsigned)
+
+parts_cmp : (x y : ℕ × (ℕ × (ℕ × ℕ))) → Ordering
+parts_cmp x y = ordering_then (nat_cmp x.0 y.0) (line_cmp x.1 y.1)
 
 exact_parts : CmpEqualImpliesEq parts_cmp
 unfolding parts_cmp
-exact_parts = exact_pairs {B = ℕ × ℕ} nat_cmp (λ x y. ordering_then (nat_cmp x.0 y.0) (nat_cmp x.1 y.1)) exact_unsigned
-    (exact_pairs {B = ℕ} nat_cmp nat_cmp exact_unsigned exact_unsigned)
+exact_parts = exact_pairs {B = ℕ × (ℕ × ℕ)} nat_cmp line_cmp exact_unsigned exact_lines
 
 pub exact_places : CmpEqualImpliesEq compare_places
-unfolding parts_cmp
+unfolding parts_cmp line_cmp
 exact_places a b h =
-    ap (λ (x : ℕ × (ℕ × ℕ)). let p : TablePlace = record { table = x.0; line = x.1.0; rank = x.1.1 } in p)
-    (exact_parts (a.table, (a.line, a.rank)) (b.table, (b.line, b.rank)) h)
+    ap (λ (x : ℕ × (ℕ × (ℕ × ℕ))). place_with x.0 x.1.0 x.1.1.0 x.1.1.1)
+    (exact_parts (a.table, (a.number, (a.line, a.rank))) (b.table, (b.number, (b.line, b.rank))) h)
 
 pub places_total : IsTotalOrder compare_places
 places_total =
     then_total (on_total (λ (p : TablePlace). p.table) nat_cmp_total)
-    (then_total (on_total (λ (p : TablePlace). p.line) nat_cmp_total) (on_total (λ (p : TablePlace). p.rank) nat_cmp_total))
+    (then_total (on_total (λ (p : TablePlace). p.number) nat_cmp_total)
+    (then_total (on_total (λ (p : TablePlace). p.line) nat_cmp_total) (on_total (λ (p : TablePlace). p.rank) nat_cmp_total)))

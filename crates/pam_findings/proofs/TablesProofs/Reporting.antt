@@ -10,7 +10,7 @@ use Rattle.pam_findings.specs.tables.Needs.{IsNeeded, Need, OfAccess, OfGroups, 
 use Rattle.pam_findings.specs.tables.inner.Passes.{Adds, ArePlaced, Found, IsOfSome, Puts, finding_at}
 use Rattle.pam_findings.specs.tables.Problems.{compare_places, place_of}
 use Rattle.pam_findings.specs.tables.Report.{IsProblem, IsTableReport}
-use Rattle.pam_findings.specs.tables.Tables.{TablesText, access_problems, group_problems, problems_for, time_problems}
+use Rattle.pam_findings.specs.tables.Tables.{TablesText, all_access_problems, beside, group_problems, problems_for, time_problems}
 use Rattle.pam_findings.specs.declared.tables.problem.TableFinding.{TableFinding}
 use Rattle.pam_findings.specs.declared.tables.problem.TablePlace.{TablePlace}
 use Rattle.pam_findings.proofs.TablesProofs.Adding.{of-none}
@@ -33,12 +33,12 @@ module _ (folder : Folder) (services : List (List ℕ)) (tables : TablesText) wh
       puts
 
   -- where no table is given there is none
-  none-for : (need : Need) → tables.access ≡ None → tables.time ≡ None → problems_for tables need ≡ []
-  none-for OfGroups access time = ap (λ (o : Option (List ℕ)). option_map_or (λ _. option_map_or group_problems tables.groups []) o []) access
-  none-for (OfAccess options) access time = ap (λ (o : Option (List ℕ)). option_map_or (access_problems options) o []) access
+  none-for : (need : Need) → tables.access ≡ [] → tables.time ≡ None → problems_for tables need ≡ []
+  none-for OfGroups access time = ap (λ (contents : List (List ℕ)). beside contents (option_map_or group_problems tables.groups [])) access
+  none-for (OfAccess options) access time = ap (all_access_problems options 0) access
   none-for OfTime access time = ap (λ (o : Option (List ℕ)). option_map_or time_problems o []) time
 
-  pub no-problems : (found : Found) → tables.access ≡ None → tables.time ≡ None → Puts (IsProblem folder services tables) found found
+  pub no-problems : (found : Found) → tables.access ≡ [] → tables.time ≡ None → Puts (IsProblem folder services tables) found found
   no-problems found access time =
       puts-none (IsProblem folder services tables) found
       (λ finding p. of-none finding (subst (Member finding) (none-for p.need access time) p.is_of))
@@ -65,6 +65,10 @@ module _ (folder : Folder) (services : List (List ℕ)) (tables : TablesText) wh
 
     pub report-from : IsOrdered compare_places found → IsTableReport folder services tables found
     report-from ordered = record { ordered = ordered; placed = placed-at ordered; rows = row }
+
+pub no-access-given : (o : Option (Bor (List (List ℕ)))) → is_some o ≡ false → option_map_or (λ t. t.now) o [] ≡ []
+no-access-given None h = refl
+no-access-given (Some t) h = absurd cc
 
 pub none-given : (o : Option (Bor (List ℕ))) → is_some o ≡ false → option_map (λ b. b.now) o ≡ None
 none-given None h = refl

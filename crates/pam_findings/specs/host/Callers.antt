@@ -7,31 +7,44 @@ use Rattle.pam_conf.specs.Stack.{ModuleText}
 use Rattle.pam_conf.specs.declared.rule.Kind.{Kind}
 use Rattle.pam_conf.specs.declared.rule.Kind.TheVariants.{Auth}
 use Rattle.pam_facts.specs.Paths.{module_name}
+use Rattle.pam_findings.specs.host.Unasked.{never_asks}
 
 -- the services of programs that users start themselves: set-user-ID programs, tools of root, and what locks a screen
 unfoldable pub user_services : List (List ℕ)
 user_services =
     codes "su" ∷ codes "su-l" ∷ codes "runuser" ∷ codes "runuser-l" ∷ codes "sudo" ∷ codes "sudo-i" ∷ codes "pkexec" ∷ codes "polkit-1"
-    ∷ codes "passwd" ∷ codes "chsh" ∷ codes "chfn" ∷ codes "chpasswd" ∷ codes "newusers" ∷ codes "useradd" ∷ codes "userdel"
-    ∷ codes "usermod" ∷ codes "groupadd" ∷ codes "groupdel" ∷ codes "groupmod" ∷ codes "at" ∷ codes "crontab" ∷ codes "schroot"
-    ∷ codes "doas" ∷ codes "chage" ∷ codes "groupmems" ∷ codes "newrole" ∷ codes "run_init" ∷ codes "screen" ∷ codes "vlock"
-    ∷ codes "physlock" ∷ codes "xscreensaver" ∷ codes "i3lock" ∷ codes "swaylock" ∷ codes "kde" ∷ []
+    ∷ codes "passwd" ∷ codes "chsh" ∷ codes "chfn" ∷ codes "chpasswd" ∷ codes "newusers" ∷ codes "useradd" ∷ codes "userdel" ∷ codes "usermod"
+    ∷ codes "groupadd" ∷ codes "groupdel" ∷ codes "groupmod" ∷ codes "at" ∷ codes "crontab" ∷ codes "schroot" ∷ codes "doas" ∷ codes "chage"
+    ∷ codes "groupmems" ∷ codes "newrole" ∷ codes "run_init" ∷ codes "screen" ∷ codes "vlock" ∷ codes "physlock" ∷ codes "xscreensaver"
+    ∷ codes "i3lock" ∷ codes "swaylock" ∷ codes "kde" ∷ codes "gnome-screensaver" ∷ codes "mate-screensaver" ∷ codes "cinnamon-screensaver"
+    ∷ codes "xfce4-screensaver" ∷ codes "ukui-screensaver" ∷ codes "light-locker" ∷ codes "gtklock" ∷ codes "waylock" ∷ codes "hyprlock"
+    ∷ codes "xlock" ∷ codes "xtrlock" ∷ codes "slock" ∷ codes "super" ∷ codes "calife" ∷ codes "pwauth" ∷ codes "frr" ∷ codes "config-util"
+    ∷ codes "sudo-rs" ∷ codes "su-rs" ∷ []
 
 -- the services of daemons that run as root, and ask on behalf of whoever comes
 unfoldable pub daemon_services : List (List ℕ)
 daemon_services =
-    codes "sshd" ∷ codes "login" ∷ codes "remote" ∷ codes "rlogin" ∷ codes "rsh" ∷ codes "gdm" ∷ codes "gdm-password"
-    ∷ codes "gdm-autologin" ∷ codes "gdm-fingerprint" ∷ codes "gdm-smartcard" ∷ codes "gdm-launch-environment" ∷ codes "lightdm"
-    ∷ codes "lightdm-autologin" ∷ codes "lightdm-greeter" ∷ codes "sddm" ∷ codes "sddm-autologin" ∷ codes "sddm-greeter" ∷ codes "xdm"
-    ∷ codes "kdm" ∷ codes "lxdm" ∷ codes "slim" ∷ codes "wdm" ∷ codes "greetd" ∷ codes "ftp" ∷ codes "vsftpd" ∷ codes "proftpd"
-    ∷ codes "pure-ftpd" ∷ codes "dovecot" ∷ codes "imap" ∷ codes "pop3" ∷ codes "smtp" ∷ codes "cron" ∷ codes "crond" ∷ codes "atd"
-    ∷ codes "cockpit" ∷ codes "xrdp-sesman" ∷ codes "samba" ∷ codes "cups" ∷ codes "ppp" ∷ []
+    codes "sshd" ∷ codes "login" ∷ codes "remote" ∷ codes "rlogin" ∷ codes "rsh" ∷ codes "gdm" ∷ codes "gdm-password" ∷ codes "gdm-autologin"
+    ∷ codes "gdm-fingerprint" ∷ codes "gdm-smartcard" ∷ codes "gdm-smartcard-exclusive" ∷ codes "gdm-smartcard-sssd-exclusive"
+    ∷ codes "gdm-smartcard-sssd-or-password" ∷ codes "gdm-smartcard-pkcs11-exclusive" ∷ codes "gdm-launch-environment" ∷ codes "lightdm"
+    ∷ codes "lightdm-autologin" ∷ codes "lightdm-greeter" ∷ codes "sddm" ∷ codes "sddm-autologin" ∷ codes "sddm-greeter" ∷ codes "xdm" ∷ codes "kdm"
+    ∷ codes "lxdm" ∷ codes "slim" ∷ codes "wdm" ∷ codes "greetd" ∷ codes "greetd-greeter" ∷ codes "ftp" ∷ codes "vsftpd" ∷ codes "proftpd"
+    ∷ codes "pure-ftpd" ∷ codes "dovecot" ∷ codes "imap" ∷ codes "pop3" ∷ codes "smtp" ∷ codes "cockpit" ∷ codes "xrdp-sesman" ∷ codes "samba"
+    ∷ codes "cups" ∷ codes "ppp" ∷ codes "pcsd" ∷ codes "monit" ∷ codes "radiusd" ∷ codes "ocserv" ∷ []
+
+-- the services of greeters, which are asked for the user as which the greeter itself runs, and let in nobody else
+unfoldable pub greeter_services : List (List ℕ)
+greeter_services =
+    codes "lightdm-greeter" ∷ codes "sddm-greeter" ∷ codes "greetd-greeter" ∷ codes "gdm-launch-environment" ∷ []
 
 abbrev pub is_user_service : List ℕ → Bool
 is_user_service service = list_any (bytes_eq service) user_services
 
 abbrev pub is_daemon_service : List ℕ → Bool
 is_daemon_service service = list_any (bytes_eq service) daemon_services
+
+abbrev pub is_greeter : List ℕ → Bool
+is_greeter service = list_any (bytes_eq service) greeter_services
 
 abbrev pub has_argument : List ℕ → List (List ℕ) → Bool
 has_argument wanted arguments = list_any (λ argument. bytes_eq argument wanted) arguments
@@ -51,6 +64,7 @@ abbrev pub is_auth : Kind → Bool
 is_auth Auth = true
 is_auth kind = false
 
--- S14: a module looks at the user of the process, where no user has started the program: it is always root
+-- S14: a module looks at the user of the process, where no user has started the program: it is root where the program is a daemon. Where the
+-- program never asks for auth, nobody is let in by it
 abbrev pub caller_is_root : Kind → List ℕ → ModuleText → Bool
-caller_is_root kind service m = is_auth kind && not (is_user_service service) && asks_caller m
+caller_is_root kind service m = is_auth kind && not (is_user_service service) && not (never_asks service kind) && asks_caller m

@@ -43,7 +43,7 @@ reads_at host service kind =
 -- `other` beside it
 abbrev pub InStackOf : Folder → Modules → SurveyText → ℕ → List ℕ → Kind → Verdict → Spot → Type 0
 InStackOf folder modules other service name kind verdict spot =
-    InStack modules service name kind (surveyed folder name kind) verdict spot
+    InStack folder modules service name kind (surveyed folder name kind) verdict spot
     ⊎ (HasOtherAnswer folder service name kind verdict spot ⊎ (HasJumpInside folder name kind spot ⊎ InWalk other.faults spot spot.problem))
 
 -- a problem of a file that is read for a stack

@@ -1,5 +1,5 @@
 -- What the definitions imply.
-use Rattle.std.specs.Prelude.{◌≡◌, ℕ, ◌<◌, true, All, List, length, map, slice_index_or, Option, Some, None, Ok}
+use Rattle.std.specs.Prelude.{◌≡◌, ℕ, ◌<◌, Bool, true, false, All, List, length, map, slice_index_or, Option, Some, None, Ok}
 use Rattle.std.specs.BTreeMap.{BTreeMap}
 use Rattle.pam_arguments.specs.declared.lacks.Lack.{Lack}
 use Rattle.pam_findings.specs.stack.Asked.{AsksWith}
@@ -16,12 +16,14 @@ use Rattle.pam_paths.specs.Known.{may_answer}
 use Rattle.pam_paths.specs.Listing.{Allowance, IsAllowed}
 use Rattle.pam_paths.specs.Paths.{PathValue}
 use Rattle.pam_paths.specs.declared.knowledge.Known.{Known}
-use Rattle.pam_findings.specs.host.Callers.{caller_is_root, is_daemon_service}
-use Rattle.pam_findings.specs.host.Host.{Host, service_at}
+use Rattle.pam_findings.specs.host.Callers.{caller_is_root, is_daemon_service, is_greeter}
+use Rattle.pam_findings.specs.host.Host.{Host, service_at, survey_at}
 use Rattle.pam_findings.specs.host.Arguments.{lack_in, wrong_argument}
 use Rattle.pam_findings.specs.host.Levels.{level_of, level_of_argument}
+use Rattle.pam_findings.specs.host.Links.{WithLinks}
+use Rattle.pam_findings.specs.host.OtherAnswers.{is_only_included}
 use Rattle.pam_findings.specs.host.Report.{IsReportOn}
-use Rattle.pam_findings.specs.host.Verdicts.{HasOther, IsFailing, IsFree, SaysWhoLogsIn, answers_on}
+use Rattle.pam_findings.specs.host.Verdicts.{IsFailing, IsFree, IsOpen, SaysWhoLogsIn, answers_on}
 use Rattle.pam_findings.specs.declared.host.level.Level.TheVariants.{Note}
 use Rattle.pam_findings.specs.declared.host.problem.ArgumentProblem.{ArgumentProblem}
 use Rattle.pam_findings.specs.declared.host.problem.Place.{Place}
@@ -33,10 +35,15 @@ use Rattle.pam_findings.specs.declared.host.way_in.WayIn.{WayIn}
 abbrev pub IsSilent : BTreeMap Place Finding → Type 0
 IsSilent found = All (λ entry. level_of entry.1.problem ≡ Note) found.entries
 
--- A SOUND STACK of a service for a kind: it is accepted; some answers let somebody in, unless its modules only deny and warn; for
--- auth, none let in anybody whose checks all fail, and if somebody is let in, each module that says who logs in and may succeed does so
--- in some run that lets somebody in; no module looks at the user of the process where that is root, in the service of a daemon; no module
--- has an argument that it does not take, but for what is a note; and the arguments of none lack anything
+-- a program may ask for the service: it has rules of its own for the kind, or its file is not one that others include
+abbrev pub IsAskedFor : Host → ℕ → Kind → Type 0
+IsAskedFor host service kind = is_only_included host.folder (service_at host service) (survey_at host service kind) ≡ false
+
+-- A SOUND STACK of a service for a kind: it is accepted; if a program may ask for it, some answers let somebody in, unless its modules only
+-- deny and warn, or it begins with a denial that fails it; for auth, if a program may ask for it that is no greeter, none let in anybody
+-- whose checks all fail, and if somebody is let in, each module that says who logs in and may succeed does so in some run that lets
+-- somebody in; no module looks at the user of the process where that is root, in the service of a daemon that asks for auth; no module has
+-- an argument that it does not take, but for what is a note; and the arguments of none lack anything
 pub record IsSoundStack (host : Host) (service : ℕ) (kind : Kind) : Type 0 where
   pub items : Items
   pub stack : resolved host.folder (service_at host service) kind ≡ Ok items
@@ -44,8 +51,9 @@ pub record IsSoundStack (host : Host) (service : ℕ) (kind : Kind) : Type 0 whe
   pub failing : Known
   pub is_free : IsFree host.modules kind items free
   pub is_failing : IsFailing host.modules kind items failing
-  pub somebody : HasOther items → LetsIn (may_answer free) items
-  pub nobody_else : kind ≡ Auth → (answers : Assignment) → IsAllowed (may_answer failing) (module_count items) answers → decided items answers ≡ success → ⊥
+  pub somebody : IsAskedFor host service kind → IsOpen kind items → LetsIn (may_answer free) items
+  pub nobody_else : kind ≡ Auth → IsAskedFor host service kind → is_greeter (service_at host service) ≡ false →
+      (answers : Assignment) → IsAllowed (may_answer failing) (module_count items) answers → decided items answers ≡ success → ⊥
   pub counts : kind ≡ Auth → LetsIn (may_answer free) items → (number : ℕ) → SaysWhoLogsIn failing number →
       AsksWith (may_answer free) items number success → Counts (may_answer free) items number
   pub arguments : (number : ℕ) (rule : ModuleText) (position : ℕ) (wrong : ArgumentProblem) → module_at number items ≡ Some rule →
@@ -92,3 +100,9 @@ abbrev pub WaysInLetIn : Type 0
 WaysInLetIn =
     (host : Host) (named : List (List ℕ)) (found : BTreeMap Place Finding) (ways : List (Option WayIn)) → IsReportOn host named found ways →
     (service : ℕ) (way : WayIn) → service < length host.services → slice_index_or ways service None ≡ Some way → IsTrueWayIn host service way
+
+-- a host whose findings with S27 are all notes has only notes without it
+abbrev pub LinksAreNotes : Type 0
+LinksAreNotes =
+    (host : Host) (named : List (List ℕ)) (old : BTreeMap Place Finding) (ways : List (Option WayIn)) → IsReportOn host named old ways →
+    (outside : List Bool) (new : BTreeMap Place Finding) → WithLinks outside old new → IsSilent new → IsSilent old

@@ -34,12 +34,13 @@ level_of_answer false false = Note
 level_of_answer has_no_rule lets_nobody_in = Warning
 
 -- Debian's Linux-PAM refuses the whole configuration where an `@include` has no file, and makes another rule without one fail. A dash
--- before the kind of a rule says that its module may not be there. A daemon asks on behalf of whoever comes
+-- before the kind of a rule says that its module may not be there. A daemon asks on behalf of whoever comes, and a greeter for its own user
 abbrev pub level_of : Problem → Level
 level_of (problems.Fault fault) = level_of_fault fault
 level_of (problems.Walk fault) = level_of_fault fault
 level_of (problems.Released difference) = level_of_difference difference
 level_of (problems.IncludedFromVendor is_at_include) = if is_at_include then Error else Warning
+level_of (problems.LetsAnybodyIn service is_greeter) = if is_greeter then Note else Warning
 level_of problems.NeverAsked = Note
 level_of (problems.NoModule is_dashed) = if is_dashed then Note else Warning
 level_of problems.NoOther = Note
@@ -47,5 +48,6 @@ level_of (problems.OtherAnswers service kind has_no_rule lets_nobody_in) = level
 level_of problems.LeftOver = Note
 level_of (problems.CallerIsRoot is_daemon) = if is_daemon then Warning else Note
 level_of problems.UnknownModule = Note
+level_of problems.LinkOutside = Note
 level_of (problems.Argument argument wrong) = level_of_argument wrong
 level_of problem = Warning

@@ -1,16 +1,17 @@
 -- S10: `other` answers for one of auth and account, though the service has rules for the other one, or a file without a rule:
 -- pam.conf(5), on `other`.
-use Rattle.std.specs.Prelude.{◌≡◌, ◌⊎◌, ℕ, Bool, true, false, List, [], ◌∷◌, MatchOption, slice_get, Option, Some, None}
+use Rattle.std.specs.Prelude.{◌≡◌, ◌⊎◌, ℕ, ◌&&◌, Bool, true, false, List, [], ◌∷◌, MatchOption, slice_get, Option, Some, None}
 use Rattle.std.specs.Option.{option_and_then, option_map_or}
 use Rattle.pam_conf.specs.FileRules.{good_rules}
 use Rattle.pam_conf.specs.Files.{Folder, bytes_at, position_of}
 use Rattle.pam_conf.specs.Laws.{IsSound}
 use Rattle.pam_conf.specs.Rule.{RuleText}
 use Rattle.pam_conf.specs.Stack.{End}
-use Rattle.pam_conf.specs.Survey.{surveyed}
+use Rattle.pam_conf.specs.Survey.{SurveyText, surveyed}
 use Rattle.pam_conf.specs.Targets.{is_target}
 use Rattle.pam_conf.specs.declared.rule.Kind.{Kind}
 use Rattle.pam_conf.specs.declared.rule.Kind.TheVariants.{Auth, Account}
+use Rattle.pam_findings.specs.host.Unasked.{never_asks}
 use Rattle.pam_findings.specs.host.Verdicts.{Verdict, refuses_all}
 use Rattle.pam_findings.specs.declared.host.problem.Problem.TheVariants as problems
 use Rattle.pam_findings.specs.declared.host.problem.Spot.{Spot}
@@ -42,12 +43,18 @@ has_no_rule folder name =
     option_map_or (λ bytes. is_without (good_rules folder.form bytes)) (option_and_then (λ file. bytes_at file folder.entries)
     (position_of name folder.entries)) false
 
--- it has rules of its own for the other kind, or a file without a rule; and its file is not one that others include
+-- A SERVICE FOR WHICH NO PROGRAM ASKS: it has no rules of its own for the kind of this survey, and its file is one that others include
+abbrev pub is_only_included : Folder → List ℕ → SurveyText → Bool
+is_only_included folder name survey = survey.other_answers && is_target folder name
+
+-- it has rules of its own for the other kind, or a file without a rule; its file is not one that others include; and its program asks for
+-- the kind
 abbrev pub OtherAnswers : Folder → List ℕ → Kind → Type 0
 OtherAnswers folder name kind =
     IsOfOther folder name kind
     × MatchOption (partner kind) ⊥ (λ other. HasOwnRules folder name other ⊎ (has_no_rule folder name ≡ true))
     × (is_target folder name ≡ false)
+    × (never_asks name kind ≡ false)
 
 -- S10, at line 0 of the file of the service's rules, where this is the verdict on the stack of `other`
 pub record HasOtherAnswer (folder : Folder) (service : ℕ) (name : List ℕ) (kind : Kind) (verdict : Verdict) (spot : Spot) : Type 0 where

@@ -52,7 +52,7 @@ rank_of_argument arguments.OtherKind = 77
 rank_of_argument arguments.BadValue = 78
 rank_of_argument arguments.Weak = 83
 
--- E1 to E18 of lines come first, then those of walks, then L1 to L10, A5, and S1 to S26
+-- E1 to E18 of lines come first, then those of walks, then L1 to L10, A5, and S1 to S27
 abbrev pub rank_of : Problem → ℕ
 rank_of (problems.Fault fault) = rank_of_fault fault
 rank_of (problems.Walk fault) = 20 + rank_of_fault fault
@@ -60,7 +60,7 @@ rank_of (problems.Released difference) = 40 + number_of difference
 rank_of (problems.IncludedFromVendor is_at_include) = 50
 rank_of problems.EmptySeparator = 55
 rank_of (problems.LetsNobodyIn service kind) = 61
-rank_of (problems.LetsAnybodyIn service) = 62
+rank_of (problems.LetsAnybodyIn service is_greeter) = 62
 rank_of problems.NeverAsked = 63
 rank_of problems.JumpPastEnd = 64
 rank_of (problems.NoModule is_dashed) = 65
@@ -77,6 +77,7 @@ rank_of (problems.BadArguments lack) = 79
 rank_of (problems.NotCounted counts) = 82
 rank_of problems.UnknownModule = 85
 rank_of problems.SuccessNeverCounts = 86
+rank_of problems.LinkOutside = 87
 
 abbrev pub number_of_kind : Kind → ℕ
 number_of_kind Auth = 0
@@ -109,17 +110,18 @@ number_of_lack lacks.Condition = 4
 -- the service of a problem that names one, and the position of an argument
 abbrev pub service_of : Problem → ℕ
 service_of (problems.LetsNobodyIn service kind) = service
-service_of (problems.LetsAnybodyIn service) = service
+service_of (problems.LetsAnybodyIn service is_greeter) = service
 service_of (problems.TooLarge service kind) = service
 service_of (problems.OtherAnswers service kind has_no_rule lets_nobody_in) = service
 service_of (problems.Argument argument wrong) = argument
 service_of problem = 0
 
--- the number of its kind, in S10 with what tells of `other`; L10 of an `@include` has another one than that of a rule with a kind, S5 of
--- a dashed rule than that of a rule without a dash, S14 of a daemon than that of another service, S22 of a rule that counts than that
--- of another, S15 has one for what the module does, and S19 one for what is lacking
+-- the number of its kind, in S10 with what tells of `other`; L10 of an `@include` has another one than that of a rule with a kind, S2 of
+-- a greeter than that of another service, S5 of a dashed rule than that of a rule without a dash, S14 of a daemon than that of another
+-- service, S22 of a rule that counts than that of another, S15 has one for what the module does, and S19 one for what is lacking
 abbrev pub kind_of : Problem → ℕ
 kind_of (problems.LetsNobodyIn service kind) = number_of_kind kind
+kind_of (problems.LetsAnybodyIn service is_greeter) = if is_greeter then 1 else 0
 kind_of (problems.TooLarge service kind) = number_of_kind kind
 kind_of (problems.OtherAnswers service kind has_no_rule lets_nobody_in) = number_of_answer kind has_no_rule lets_nobody_in
 kind_of (problems.IncludedFromVendor is_at_include) = if is_at_include then 1 else 0

@@ -12,9 +12,10 @@ use Rattle.pam_text.specs.Members.{Member}
 use Rattle.pam_paths.specs.Known.{may_answer}
 use Rattle.pam_paths.specs.Paths.{PathValue}
 use Rattle.pam_findings.specs.host.Arguments.{lack_in, wrong_argument}
-use Rattle.pam_findings.specs.host.Callers.{caller_is_root, is_daemon_service}
+use Rattle.pam_findings.specs.host.Callers.{caller_is_root, is_daemon_service, is_greeter}
 use Rattle.pam_findings.specs.host.Faillock.{IsHalf}
 use Rattle.pam_findings.specs.host.Modules.{Modules}
+use Rattle.pam_findings.specs.host.OtherAnswers.{is_only_included}
 use Rattle.pam_findings.specs.host.Separators.{lacks_separator}
 use Rattle.pam_findings.specs.host.UnknownModules.{IsUnknown}
 use Rattle.pam_findings.specs.host.Verdicts.{Judged, Judgement, LetsNobody, Refused, SaysWhoLogsIn, TooLarge, Verdict}
@@ -105,27 +106,48 @@ CountsInVain (Judged j) counts spot = HasModule j.items spot (λ number rule. Is
 
 -- BY THE VERDICT on the stack of a service for a kind, where a whole stack is at line 0 of the file of its first rules
 
+-- WHICH STACK: its service, by position, and its kind; the file of its first rules; whether the service is a file that is only included,
+-- for which no program asks; and whether it is that of a greeter, whose own user alone asks
+pub record StackAt : Type 0 where
+  pub service : ℕ
+  pub kind : Kind
+  pub home : Option ℕ
+  pub is_only_included : Bool
+  pub is_greeter : Bool
+
+-- the stack of the service of this name, by its survey
+abbrev pub stack_at : Folder → ℕ → List ℕ → Kind → SurveyText → StackAt
+stack_at folder service name kind survey = record {
+  service = service;
+  kind = kind;
+  home = slice_get survey.reached 0;
+  is_only_included = is_only_included folder name survey;
+  is_greeter = is_greeter name;
+}
+
 abbrev pub IsHome : Option ℕ → Spot → Type 0
 IsHome home spot = (spot.file ≡ home) × (spot.line ≡ 0)
 
 -- S1, S2, S4, S9, S22 and S26
-abbrev pub ByVerdict : ℕ → Kind → Option ℕ → Verdict → Spot → Problem → Type 0
-ByVerdict service kind home verdict spot (problems.LetsNobodyIn of_service of_kind) =
-    (of_service ≡ service) × (of_kind ≡ kind) × IsHome home spot × LetsNobody verdict
-ByVerdict service kind home verdict spot (problems.LetsAnybodyIn of_service) =
-    (of_service ≡ service) × (kind ≡ Auth) × IsHome home spot × IsSome (way_in_of verdict)
-ByVerdict service kind home verdict spot (problems.TooLarge of_service of_kind) =
-    (of_service ≡ service) × (of_kind ≡ kind) × IsHome home spot × (verdict ≡ TooLarge)
-ByVerdict service kind home verdict spot problems.JumpPastEnd = Jumps verdict spot
-ByVerdict service kind home verdict spot problems.SuccessNeverCounts = (kind ≡ Auth) × SucceedsInVain verdict spot
-ByVerdict service kind home verdict spot (problems.NotCounted counts) = (kind ≡ Auth) × CountsInVain verdict counts spot
-ByVerdict service kind home verdict spot problem = ⊥
+abbrev pub ByVerdict : StackAt → Verdict → Spot → Problem → Type 0
+ByVerdict at verdict spot (problems.LetsNobodyIn of_service of_kind) =
+    (of_service ≡ at.service) × (of_kind ≡ at.kind) × IsHome at.home spot × LetsNobody at.kind verdict × (at.is_only_included ≡ false)
+ByVerdict at verdict spot (problems.LetsAnybodyIn of_service of_greeter) =
+    (of_service ≡ at.service) × (at.kind ≡ Auth) × IsHome at.home spot × IsSome (way_in_of verdict) × (at.is_only_included ≡ false)
+    × (of_greeter ≡ at.is_greeter)
+ByVerdict at verdict spot (problems.TooLarge of_service of_kind) =
+    (of_service ≡ at.service) × (of_kind ≡ at.kind) × IsHome at.home spot × (verdict ≡ TooLarge)
+ByVerdict at verdict spot problems.JumpPastEnd = Jumps verdict spot
+ByVerdict at verdict spot problems.SuccessNeverCounts = (at.kind ≡ Auth) × SucceedsInVain verdict spot
+ByVerdict at verdict spot (problems.NotCounted counts) = (at.kind ≡ Auth) × CountsInVain verdict counts spot
+ByVerdict at verdict spot problem = ⊥
 
 -- A PROBLEM OF A STACK itself, by the survey of a service and the verdict
-abbrev pub InStack : Modules → ℕ → List ℕ → Kind → SurveyText → Verdict → Spot → Type 0
-InStack modules service name kind survey verdict spot =
+abbrev pub InStack : Folder → Modules → ℕ → List ℕ → Kind → SurveyText → Verdict → Spot → Type 0
+InStack folder modules service name kind survey verdict spot =
     InWalk survey.faults spot spot.problem
-    ⊎ (InItems modules name kind survey.items spot spot.problem ⊎ ByVerdict service kind (slice_get survey.reached 0) verdict spot spot.problem)
+    ⊎ (InItems modules name kind survey.items spot spot.problem
+    ⊎ ByVerdict (stack_at folder service name kind survey) verdict spot spot.problem)
 
 -- THE FIRST WAY IN, as a stack and answers of its modules
 pub record IsWayIn (j : Judgement) (path : PathValue) (way : WayIn) : Type 0 where

@@ -23,6 +23,7 @@ use Rattle.pam_paths.specs.Known.{may_answer}
 use Rattle.pam_paths.specs.Listing.{Allowance}
 use Rattle.pam_paths.specs.Paths.{PathValue, StepValue}
 use Rattle.pam_paths.specs.declared.knowledge.Known.{Known}
+use Rattle.pam_findings.specs.host.Closed.{begins_closed}
 use Rattle.pam_findings.specs.host.Failing.{with_failures}
 use Rattle.pam_findings.specs.host.Modules.{Modules}
 use Rattle.pam_findings.specs.declared.host.way_in.Answered.{Answered}
@@ -96,11 +97,15 @@ is_other m = not (option_map_or denies_or_warns (module_name m.path) false)
 abbrev pub HasOther : Items → Type 0
 HasOther items = (number : ℕ) × (m : ModuleText) × (module_at number items ≡ Some m) × (is_other m ≡ true)
 
+-- A STACK IS TO LET SOMEBODY IN: it has a module that neither denies nor only warns, and is not closed on purpose
+abbrev pub IsOpen : Kind → Items → Type 0
+IsOpen kind items = HasOther items × (begins_closed kind items ≡ false)
+
 -- S1 and S2, by the verdict
-abbrev pub LetsNobody : Verdict → Type 0
-LetsNobody Refused = ⊥
-LetsNobody TooLarge = ⊥
-LetsNobody (Judged j) = (j.nobody ≡ true) × HasOther j.items
+abbrev pub LetsNobody : Kind → Verdict → Type 0
+LetsNobody kind Refused = ⊥
+LetsNobody kind TooLarge = ⊥
+LetsNobody kind (Judged j) = (j.nobody ≡ true) × IsOpen kind j.items
 
 -- S10: the stack is known to let nobody in
 abbrev pub refuses_all : Verdict → Bool

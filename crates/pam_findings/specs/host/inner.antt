@@ -5,6 +5,7 @@ pub mod CutOff
 pub mod Halves
 pub mod Insides
 pub mod Lefts
+pub mod Linked
 pub mod Looked
 pub mod Meeting
 pub mod OfFolder

@@ -1,7 +1,8 @@
 -- The words that are wrong at findings.
-use Rattle.std.specs.Prelude.{ℕ, List, Option, Some, None}
+use Rattle.std.specs.Prelude.{ℕ, Bool, List, Option, Some, None, if◌then◌else◌}
 use Rattle.std.specs.Option.{option_and_then}
 use Rattle.pam_conf.specs.Files.{Folder}
+use Rattle.pam_findings.specs.host.Links.{is_outside}
 use Rattle.pam_findings.specs.declared.host.problem.Place.{Place}
 use Rattle.pam_findings.specs.declared.host.problem.Problem.{Problem}
 use Rattle.pam_findings.specs.declared.host.problem.Problem.TheVariants as problems
@@ -20,11 +21,16 @@ wrong_of (problems.NoModule is_dashed) = Some wrong.NoModule
 wrong_of (problems.Argument argument why) = Some (wrong.Argument argument why)
 wrong_of problem = None
 
+-- of a file that is a link which leads out of its folder no word is told
+abbrev pub wrong_at : List Bool → Place × Finding → Option Wrong
+wrong_at outside entry = if is_outside outside entry.0.file then None else wrong_of entry.1.problem
+
 abbrev pub right_names : Folder → Option (List (List ℕ)) → Right
 right_names files there = record { files = first_names files; modules = first_modules there }
 
--- THE WORD THAT IS WRONG at a finding, where a module is there at these paths, if that is known
-unfoldable pub misspelled_at : Folder → Option (List (List ℕ)) → Place × Finding → Option MisspelledText
-misspelled_at files there entry =
+-- THE WORD THAT IS WRONG at a finding, where a module is there at these paths, if that is known, and these files are links which
+-- lead out of the folder
+unfoldable pub misspelled_at : Folder → Option (List (List ℕ)) → List Bool → Place × Finding → Option MisspelledText
+misspelled_at files there outside entry =
     option_and_then (λ why. option_and_then (misspelled_in (right_names files there) files.form why) (line_of files entry.0.file entry.0.line))
-    (wrong_of entry.1.problem)
+    (wrong_at outside entry)

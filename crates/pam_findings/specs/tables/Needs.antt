@@ -8,13 +8,13 @@ use Rattle.pam_facts.specs.known.Answers.{is_access_reader, is_time_reader}
 use Rattle.pam_text.specs.Members.{Member}
 use Rattle.pam_tables.specs.Options.{Options, options_of}
 
--- the group file, the access table read with some options, or the time table
+-- the group file, the access tables read with some options, or the time table
 pub data Need : Type 0 where
   OfGroups : Need
   OfAccess : Options → Need
   OfTime : Need
 
--- what a module of a stack of some kind reads: pam_access the access table and the group file, and pam_time the time table
+-- what a module of a stack of some kind reads: pam_access the access tables and the group file, and pam_time the time table
 abbrev pub access_needs : ModuleText → List Need
 access_needs m = if is_access_reader m then OfGroups ∷ OfAccess (options_of m.arguments) ∷ [] else []
 

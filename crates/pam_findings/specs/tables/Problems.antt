@@ -67,8 +67,10 @@ rank_of (problems.Released difference) = 40 + rank_of_difference difference
 
 -- THE PLACE of a problem at a line of a table
 unfoldable pub place_of : TableFinding → TablePlace
-place_of finding = record { table = rank_of_table finding.table; line = finding.line; rank = rank_of finding.problem }
+place_of finding = record { table = rank_of_table finding.table; number = finding.number; line = finding.line; rank = rank_of finding.problem }
 
--- THE ORDER OF PLACES: by table; in one table by line; and at one line by rank
+-- THE ORDER OF PLACES: by table; of access tables by number; in one table by line; and at one line by rank
 abbrev pub compare_places : TablePlace → TablePlace → Ordering
-compare_places one other = ordering_then (nat_cmp one.table other.table) (ordering_then (nat_cmp one.line other.line) (nat_cmp one.rank other.rank))
+compare_places one other =
+    ordering_then (nat_cmp one.table other.table) (ordering_then (nat_cmp one.number other.number)
+    (ordering_then (nat_cmp one.line other.line) (nat_cmp one.rank other.rank)))

@@ -5,14 +5,15 @@ ghost use Rattle.std.specs.List.{list_any};
 ghost use Rattle.std.specs.Str.{bytes_eq};
 ghost use Rattle.pam_conf.specs.ItemsOf.{module_text};
 ghost use Rattle.pam_findings.specs.host.Callers.{asks_caller, asks_caller_by, caller_is_root, daemon_services};
-ghost use Rattle.pam_findings.specs.host.Callers.{is_daemon_service, is_user_service, user_services};
+ghost use Rattle.pam_findings.specs.host.Callers.{greeter_services, is_daemon_service, is_greeter, is_user_service, user_services};
 
+use crate::host::unasked::{is_among, never_asks};
 use pam_conf::{Kind, Module};
 use pam_facts::module_name;
 use pam_text::Texts;
 
 /// The services of programs that users start themselves: set-user-ID programs, tools of root, and what locks a screen.
-static USER_SERVICES: [&[u8]; 34] = [
+static USER_SERVICES: [&[u8]; 53] = [
     b"su",
     b"su-l",
     b"runuser",
@@ -47,10 +48,29 @@ static USER_SERVICES: [&[u8]; 34] = [
     b"i3lock",
     b"swaylock",
     b"kde",
+    b"gnome-screensaver",
+    b"mate-screensaver",
+    b"cinnamon-screensaver",
+    b"xfce4-screensaver",
+    b"ukui-screensaver",
+    b"light-locker",
+    b"gtklock",
+    b"waylock",
+    b"hyprlock",
+    b"xlock",
+    b"xtrlock",
+    b"slock",
+    b"super",
+    b"calife",
+    b"pwauth",
+    b"frr",
+    b"config-util",
+    b"sudo-rs",
+    b"su-rs",
 ];
 
 /// The services of daemons that run as root, and ask on behalf of whoever comes.
-static DAEMON_SERVICES: [&[u8]; 39] = [
+static DAEMON_SERVICES: [&[u8]; 45] = [
     b"sshd",
     b"login",
     b"remote",
@@ -61,6 +81,10 @@ static DAEMON_SERVICES: [&[u8]; 39] = [
     b"gdm-autologin",
     b"gdm-fingerprint",
     b"gdm-smartcard",
+    b"gdm-smartcard-exclusive",
+    b"gdm-smartcard-sssd-exclusive",
+    b"gdm-smartcard-sssd-or-password",
+    b"gdm-smartcard-pkcs11-exclusive",
     b"gdm-launch-environment",
     b"lightdm",
     b"lightdm-autologin",
@@ -74,6 +98,7 @@ static DAEMON_SERVICES: [&[u8]; 39] = [
     b"slim",
     b"wdm",
     b"greetd",
+    b"greetd-greeter",
     b"ftp",
     b"vsftpd",
     b"proftpd",
@@ -82,14 +107,23 @@ static DAEMON_SERVICES: [&[u8]; 39] = [
     b"imap",
     b"pop3",
     b"smtp",
-    b"cron",
-    b"crond",
-    b"atd",
     b"cockpit",
     b"xrdp-sesman",
     b"samba",
     b"cups",
     b"ppp",
+    b"pcsd",
+    b"monit",
+    b"radiusd",
+    b"ocserv",
+];
+
+/// The services of greeters, which are asked for the user as which the greeter itself runs.
+static GREETER_SERVICES: [&[u8]; 4] = [
+    b"lightdm-greeter",
+    b"sddm-greeter",
+    b"greetd-greeter",
+    b"gdm-launch-environment",
 ];
 
 #[tactic(auto, unfolding(crate::specs::host::Callers::user_services))]
@@ -106,10 +140,11 @@ fn daemon_services() -> &'static [&'static [u8]]
     &DAEMON_SERVICES
 }
 
-fn is_among(services: &[&[u8]], service: &[u8]) -> bool
-    ensures { result ≡ list_any (λ known. bytes_eq service.now known.now) services.now }
+#[tactic(auto, unfolding(crate::specs::host::Callers::greeter_services))]
+fn greeter_services() -> &'static [&'static [u8]]
+    ensures { map (λ service. service.now) result.now ≡ greeter_services }
 {
-    services.iter().any(|known| service == *known)
+    &GREETER_SERVICES
 }
 
 fn is_user_service(service: &[u8]) -> bool
@@ -123,6 +158,13 @@ pub(crate) fn is_daemon_service(service: &[u8]) -> bool
     ensures { result ≡ is_daemon_service service.now }
 {
     is_among(daemon_services(), service)
+}
+
+/// Whether a service is that of a greeter.
+pub(crate) fn is_greeter(service: &[u8]) -> bool
+    ensures { result ≡ is_greeter service.now }
+{
+    is_among(greeter_services(), service)
 }
 
 fn has_argument(wanted: &[u8], arguments: &Texts) -> bool
@@ -151,9 +193,12 @@ fn asks_caller(module: &Module) -> bool
     }
 }
 
-/// Whether a module looks at the user of the process, and that is always root: S14.
+/// Whether a module looks at the user of the process, which no user has started, in a service that asks for `auth`: S14.
 pub(crate) fn caller_is_root(kind: Kind, service: &[u8], module: &Module) -> bool
     ensures { result ≡ caller_is_root kind service.now (module_text «module».now) }
 {
-    kind == Kind::Auth && !is_user_service(service) && asks_caller(module)
+    kind == Kind::Auth
+        && !is_user_service(service)
+        && !never_asks(service, kind)
+        && asks_caller(module)
 }

@@ -5,11 +5,12 @@ ghost use Rattle.pam_conf.specs.Files.{Folder};
 ghost use Rattle.pam_conf.specs.Resolution.{resolved};
 ghost use Rattle.pam_paths.specs.declared.knowledge.Known.{Known as KnownText};
 ghost use Rattle.pam_findings.specs.host.inner.Halves.{HalvesIn};
-ghost use Rattle.pam_findings.specs.host.inner.Looked.{Judges, VainIn, judgement_of};
+ghost use Rattle.pam_findings.specs.host.inner.Looked.{Judges, VainIn, at_of, judgement_of};
 ghost use Rattle.pam_findings.specs.host.StackProblems.{ByVerdict, HasWayIn};
 ghost use Rattle.pam_findings.specs.host.inner.Table.{Adds};
-ghost use Rattle.pam_findings.specs.host.Verdicts.{HasOther, Judged};
+ghost use Rattle.pam_findings.specs.host.Verdicts.{IsOpen, Judged};
 
+use crate::host::closed::begins_closed;
 use crate::host::faillock::push_half;
 use crate::host::known_modules::Modules;
 use crate::host::modules::{has_other, push_asked, push_jumps, push_never_counting};
@@ -21,12 +22,16 @@ use pam_graph::GraphError;
 use pam_paths::Known;
 use std::alloc::{AllocError, Global};
 
-/// The service and the kind of a stack, and the file of its first rules.
+/// The service and the kind of a stack, the file of its first rules, and whether and by whom it is asked for.
 #[derive(Clone, Copy)]
 pub(crate) struct Stacked {
     pub service: usize,
     pub kind: Kind,
     pub home: Option<usize>,
+    /// Whether the service is a file that is only included, for which no program asks.
+    pub is_only_included: bool,
+    /// Whether the service is that of a greeter.
+    pub is_greeter: bool,
 }
 
 /// What is told of a stack: the first way in, if it is one of `auth`, and whether it is known to let nobody in.
@@ -67,20 +72,28 @@ fn push_whole(
     Ok(())
 }
 
-/// Whether a stack lets nobody in, although it has a module that neither denies nor only warns.
-fn lets_nobody_in(stack: &Stack, soundness: &Soundness) -> bool
-    ensures yes { IsTrue result → (soundness.now.lets_nobody_in ≡ true) × HasOther stack.now }
-    ensures no { IsFalse result → soundness.now.lets_nobody_in ≡ true → HasOther stack.now → ⊥ }
+/// Whether a stack is to let somebody in: it has a module that neither denies nor only warns, and is not closed on purpose.
+fn is_open(kind: Kind, stack: &Stack) -> bool
+    ensures yes { IsTrue result → IsOpen kind stack.now }
+    ensures no { IsFalse result → IsOpen kind stack.now → ⊥ }
 {
-    soundness.lets_nobody_in && has_other(stack)
+    has_other(stack) && !begins_closed(kind, stack)
 }
 
-/// Whether a stack of `auth` lets anybody in.
-fn lets_anybody_in(kind: Kind, soundness: &Soundness) -> bool
-    ensures yes { IsTrue result → (kind ≡ Kind.Auth) × IsSome soundness.now.lets_anybody_in }
-    ensures no { IsFalse result → kind ≡ Kind.Auth → IsSome soundness.now.lets_anybody_in → ⊥ }
+/// Whether a stack for which a program may ask lets nobody in, although it is to let somebody in.
+fn lets_nobody_in(at: Stacked, stack: &Stack, soundness: &Soundness) -> bool
+    ensures yes { IsTrue result → (soundness.now.lets_nobody_in ≡ true) × IsOpen at.kind stack.now × (at.is_only_included ≡ false) }
+    ensures no { IsFalse result → soundness.now.lets_nobody_in ≡ true → IsOpen at.kind stack.now → at.is_only_included ≡ false → ⊥ }
 {
-    kind == Kind::Auth && soundness.lets_anybody_in.is_some()
+    soundness.lets_nobody_in && !at.is_only_included && is_open(at.kind, stack)
+}
+
+/// Whether a stack of `auth` for which a program may ask lets anybody in.
+fn lets_anybody_in(at: Stacked, soundness: &Soundness) -> bool
+    ensures yes { IsTrue result → (at.kind ≡ Kind.Auth) × IsSome soundness.now.lets_anybody_in × (at.is_only_included ≡ false) }
+    ensures no { IsFalse result → at.kind ≡ Kind.Auth → IsSome soundness.now.lets_anybody_in → at.is_only_included ≡ false → ⊥ }
+{
+    at.kind == Kind::Auth && !at.is_only_included && soundness.lets_anybody_in.is_some()
 }
 
 /// Whether a stack of `auth` lets somebody in.
@@ -135,11 +148,11 @@ fn push_judged(
     soundness: &Soundness,
 ) -> Result<(), AllocError>
     ensures { (free : KnownText) → OnOk result (Adds
-        (λ spot. ByVerdict at.service at.kind at.home (Judged (judgement_of stack.now free failing.now soundness.now)) spot spot.problem)
+        (λ spot. ByVerdict (at_of at) (Judged (judgement_of stack.now free failing.now soundness.now)) spot spot.problem)
         spots.old.items spots.new.items) }
 {
-    let nobody = lets_nobody_in(stack, soundness);
-    let anybody = lets_anybody_in(at.kind, soundness);
+    let nobody = lets_nobody_in(at, stack, soundness);
+    let anybody = lets_anybody_in(at, soundness);
     push_whole(
         spots,
         at,
@@ -155,6 +168,7 @@ fn push_judged(
         anybody,
         Problem::LetsAnybodyIn {
             service: at.service,
+            is_greeter: at.is_greeter,
         },
     )?;
     push_jumps(spots, stack, &soundness.jumps_past_end)?;

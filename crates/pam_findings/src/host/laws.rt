@@ -1,10 +1,11 @@
 //! Laws of the definitions that the contracts cite: each is the contract of an empty function.
 
-ghost use Rattle.pam_findings.specs.host.Laws.{FirstWayLetsIn, SilentHostIsSound, WaysInLetIn};
+ghost use Rattle.pam_findings.specs.host.Laws.{FirstWayLetsIn, LinksAreNotes, SilentHostIsSound, WaysInLetIn};
 
 /// On a host with no finding at or above warning, each service that was checked has for each kind an accepted stack. Some
-/// answers of its modules let somebody in, unless they only deny and warn. If it is one of `auth`, no answers let in anybody
-/// whose checks all fail.
+/// answers of its modules let somebody in, unless they only deny and warn, or the stack begins with a denial that fails it. If it is
+/// one of `auth`, and the service is not that of a greeter, no answers let in anybody whose checks all fail. The last two are not said of
+/// a service whose file has no rule of the kind, so that `other` answers, and is one that others include: no program asks for it.
 pub fn a_silent_host_is_sound()
     ensures { SilentHostIsSound }
 {}
@@ -14,4 +15,9 @@ pub fn a_silent_host_is_sound()
 pub fn a_way_in_lets_in()
     ensures first { FirstWayLetsIn }
     ensures each { WaysInLetIn }
+{}
+
+/// S27 is a note, and takes no other finding away.
+pub fn links_are_notes()
+    ensures { LinksAreNotes }
 {}

@@ -68,13 +68,21 @@ impl Problem {
             | Problem::LeftOver
             | Problem::CallerIsRoot { is_daemon: false }
             | Problem::UnknownModule
-            | Problem::NoModule { is_dashed: true } => Level::Note,
+            | Problem::LinkOutside
+            | Problem::NoModule { is_dashed: true }
+            | Problem::LetsAnybodyIn {
+                is_greeter: true,
+                ..
+            } => Level::Note,
             Problem::IncludedFromVendor {
                 is_at_include: false,
             }
             | Problem::EmptySeparator
             | Problem::LetsNobodyIn { .. }
-            | Problem::LetsAnybodyIn { .. }
+            | Problem::LetsAnybodyIn {
+                is_greeter: false,
+                ..
+            }
             | Problem::JumpPastEnd
             | Problem::BadArguments(_)
             | Problem::JumpIntoInclude

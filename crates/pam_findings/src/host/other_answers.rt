@@ -3,14 +3,15 @@
 ghost use Rattle.std.specs.Prelude.{◌≡◌, ◌↔◌, IfOk, OnOk, true};
 ghost use Rattle.pam_conf.specs.Survey.{surveyed};
 ghost use Rattle.pam_conf.specs.SurveyText.{survey_text};
-ghost use Rattle.pam_findings.specs.host.OtherAnswers.{HasOwnRules, has_no_rule, partner};
+ghost use Rattle.pam_findings.specs.host.OtherAnswers.{HasOwnRules, has_no_rule, is_only_included, partner};
 ghost use Rattle.pam_findings.specs.host.inner.Lefts.{IsLeft, SaysLeft};
 ghost use Rattle.pam_findings.specs.host.inner.Table.{Adds};
 
 use crate::host::judging::Stacked;
 use crate::host::problem::{Problem, Spot};
 use crate::host::stacks::Checker;
-use pam_conf::{Kind, Survey, is_sound};
+use crate::host::unasked::never_asks;
+use pam_conf::{Kind, RuleFiles, Survey, is_sound};
 use std::alloc::AllocError;
 
 /// The other one of auth and account; `None` for the other kinds.
@@ -65,7 +66,15 @@ pub(crate) fn other_answers(
     let has_own = has_own_rules(checker, name, partner)?;
     let has_no_rule = has_no_rule(checker, name)?;
     let is_service = (has_own || has_no_rule) && !checker.rules.is_target(name);
-    Ok(is_service.then_some(has_no_rule))
+    let is_asked_for = is_service && !never_asks(name, kind);
+    Ok(is_asked_for.then_some(has_no_rule))
+}
+
+/// Whether no program asks for the service: it has no rules of its own for the kind of this survey, and its file is one that others include.
+pub(crate) fn is_only_included(rules: &RuleFiles<'_>, name: &[u8], survey: &Survey) -> bool
+    ensures { result ≡ is_only_included rules.now name.now (survey_text survey.now) }
+{
+    survey.other_answers && rules.is_target(name)
 }
 
 /// Appends S10 of a stack, where `other` answers, which may be known to let nobody in.

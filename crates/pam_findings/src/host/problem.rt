@@ -40,7 +40,8 @@ pub enum Problem {
     },
     /// A5: an argument `fieldsep=` or `listsep=` of pam_access has no value, which released Linux-PAM reads otherwise.
     EmptySeparator,
-    /// S1: a stack with another module than `pam_deny.so` and `pam_warn.so` never decides success.
+    /// S1: a stack with another module than `pam_deny.so` and `pam_warn.so`, which does not begin with a denial that fails it, never
+    /// decides success.
     LetsNobodyIn {
         /// The position of the service in `HostReport::services`.
         service: usize,
@@ -50,6 +51,8 @@ pub enum Problem {
     LetsAnybodyIn {
         /// The position of the service in `HostReport::services`.
         service: usize,
+        /// Whether the service is that of a greeter, which asks for its own user alone.
+        is_greeter: bool,
     },
     /// S3: no answers ask a module, in any stack that its rule is in.
     NeverAsked,
@@ -70,7 +73,8 @@ pub enum Problem {
         service: usize,
         kind: Kind,
     },
-    /// S10: `other` answers for one of auth and account, though the service has rules for the other one, or has a file without a rule.
+    /// S10: `other` answers for one of auth and account for which the program asks, though the service has rules for the other one, or
+    /// has a file without a rule.
     OtherAnswers {
         /// The position of the service in `HostReport::services`.
         service: usize,
@@ -87,7 +91,7 @@ pub enum Problem {
     JumpIntoInclude,
     /// S13: a module has no function in the kind of its rule.
     NoFunction,
-    /// S14: a module of an `auth` stack looks at the user of the calling process, which is always root in this service.
+    /// S14: a module of an `auth` stack looks at the user of the calling process, which is root where a daemon asks.
     CallerIsRoot {
         /// Whether the service is that of a daemon, which asks on behalf of whoever comes.
         is_daemon: bool,
@@ -109,6 +113,8 @@ pub enum Problem {
     UnknownModule,
     /// S26: the success of a module that says who logs in never makes an `auth` stack succeed, though others let somebody in.
     SuccessNeverCounts,
+    /// S27: a file of a folder is a link that leads out of the folder.
+    LinkOutside,
 }
 
 /// A problem at a line of a file.
@@ -133,7 +139,7 @@ pub struct Place {
     /// The service of a problem that names one, and the position of an argument; else 0.
     pub service: usize,
     /// The number of the kind of a problem that names one, which for S10 also tells why and how `other` answers; 1 for L10 of an
-    /// `@include`, for S5 of a dashed rule, for S14 of a daemon and for S22 of a rule that counts; for S15 the number of what the module
+    /// `@include`, for S2 of a greeter, for S5 of a dashed rule, for S14 of a daemon and for S22 of a rule that counts; for S15 the number of what the module
     /// does, and for S19 of what is lacking; else 0.
     pub kind: u8,
 }
@@ -271,6 +277,7 @@ impl Problem {
             Problem::NotCounted { .. } => 82,
             Problem::UnknownModule => 85,
             Problem::SuccessNeverCounts => 86,
+            Problem::LinkOutside => 87,
         }
     }
 
@@ -289,7 +296,10 @@ impl Problem {
                 has_no_rule,
                 lets_nobody_in,
             } => (service, number_of_answer(kind, has_no_rule, lets_nobody_in)),
-            Problem::LetsAnybodyIn { service } => (service, 0),
+            Problem::LetsAnybodyIn {
+                service,
+                is_greeter,
+            } => (service, u8::from(is_greeter)),
             Problem::IncludedFromVendor { is_at_include } => (0, u8::from(is_at_include)),
             Problem::NoModule { is_dashed } => (0, u8::from(is_dashed)),
             Problem::CallerIsRoot { is_daemon } => (0, u8::from(is_daemon)),
@@ -308,7 +318,8 @@ impl Problem {
             | Problem::JumpIntoInclude
             | Problem::NoFunction
             | Problem::UnknownModule
-            | Problem::SuccessNeverCounts => (0, 0),
+            | Problem::SuccessNeverCounts
+            | Problem::LinkOutside => (0, 0),
         }
     }
 }

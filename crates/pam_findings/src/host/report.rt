@@ -1,7 +1,8 @@
 //! The findings of a host.
 
-ghost use Rattle.std.specs.Prelude.{◌≡◌, IfOk};
+ghost use Rattle.std.specs.Prelude.{◌≡◌, IfOk, OnOk, map};
 ghost use Rattle.std.specs.Option.{option_map};
+ghost use Rattle.pam_findings.specs.host.Links.{WithLinks, told_way};
 ghost use Rattle.pam_findings.specs.host.Report.{IsReport};
 ghost use Rattle.pam_conf.specs.Services.{checked_services};
 
@@ -9,6 +10,7 @@ use crate::host::beside::Beside;
 use crate::host::cut_off::push_cut_off;
 use crate::host::folder::put_folder;
 use crate::host::known_modules::Modules;
+use crate::host::links::{put_links, tell_ways};
 use crate::host::met::Met;
 use crate::host::own::put_files;
 use crate::host::problem::{Place, Problem};
@@ -22,7 +24,7 @@ use pam_text::Texts;
 use std::alloc::{AllocError, Global};
 use std::collections::BTreeMap;
 
-/// A problem, and the stacks that meet it; `None` for S6, S7 and S11, which are met by none.
+/// A problem, and the stacks that meet it; `None` for S6, S7, S11 and S27, which are met by none.
 #[derive(Clone, Copy, Debug, PartialEq, Eq)]
 pub struct Finding {
     pub problem: Problem,
@@ -36,7 +38,8 @@ pub struct HostReport {
     pub services: Texts,
     /// The findings, in order, each once.
     pub found: BTreeMap<Place, Finding>,
-    /// For each service, by its position, the first way in of its `auth` stack; `Some` where S2 is found.
+    /// For each service, by its position, the first way in of its `auth` stack; `Some` where S2 is found, or would be but that the file of
+    /// the service is only included.
     pub ways_in: Vec<Option<WayIn>>,
 }
 
@@ -97,5 +100,20 @@ impl HostReport {
             found: table,
             ways_in,
         })
+    }
+
+    /// Adds S27 at the files that are links which lead out of their folder, and takes away the ways in that ask a module of such a file,
+    /// so that nothing tells a word of it. `outside` says by the position of each file whether it is one, which the files themselves do
+    /// not tell; files past its end are none.
+    pub fn add_links(&mut self, outside: &[bool]) -> Result<(), AllocError>
+        ensures links { OnOk result (WithLinks outside.now self.old.found self.new.found) }
+        ensures services { self.new.services ≡ self.old.services }
+        ensures ways_in { self.new.ways_in.items ≡ map (told_way outside.now) self.old.ways_in.items }
+    {
+        tell_ways(outside, &mut self.ways_in);
+        put_links(&mut self.found, outside)?;
+        // The length says that the entries are in order.
+        let _count = self.found.len();
+        Ok(())
     }
 }

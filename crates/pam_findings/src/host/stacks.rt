@@ -10,20 +10,23 @@ ghost use Rattle.pam_findings.specs.declared.host.problem.Spot.{Spot as SpotText
 ghost use Rattle.pam_findings.specs.host.inner.Table.{Adds, ArePlaced, Puts, finding_at, with_stack};
 ghost use Rattle.pam_findings.specs.host.inner.SoFar.{SoFar, host_with};
 ghost use Rattle.pam_findings.specs.host.Beside.{beside};
+ghost use Rattle.pam_findings.specs.host.Callers.{is_greeter};
 ghost use Rattle.pam_findings.specs.host.inner.Besides.{beside_text};
 ghost use Rattle.pam_findings.specs.host.inner.Checking.{AddsService, AddsStack};
 ghost use Rattle.pam_findings.specs.host.Inside.{HasJumpInside};
+ghost use Rattle.pam_findings.specs.host.OtherAnswers.{is_only_included};
 ghost use Rattle.pam_findings.specs.host.inner.Looked.{Looks};
 ghost use Rattle.pam_findings.specs.host.StackProblems.{InWalk};
 
 use crate::host::beside::Beside;
+use crate::host::callers::is_greeter;
 use crate::host::cut_off::with_cut_off;
 use crate::host::inside::jumps_inside;
 use crate::host::judging::{Stacked, Told, judge};
 use crate::host::known_modules::Modules;
 use crate::host::met::Met;
 use crate::host::modules::{push_asked, push_modules};
-use crate::host::other_answers::{other_answers, push_other};
+use crate::host::other_answers::{is_only_included, other_answers, push_other};
 use crate::host::problem::Spot;
 use crate::host::readers::note_read;
 use crate::host::table::{Table, put_stack_at_all};
@@ -120,6 +123,8 @@ impl Checker<'_, '_> {
     ) -> Result<Told, AllocError>
         requires none { spots.old.items ≡ [] }
         requires home { at.home ≡ slice_get (survey_text survey).reached 0 }
+        requires included { at.is_only_included ≡ is_only_included self.now.rules.now name.now (survey_text survey) }
+        requires greeter { at.is_greeter ≡ is_greeter name.now }
         ensures { survey_text survey ≡ surveyed self.now.rules.now name.now at.kind →
             IfOk result (Looks self.now.rules.now self.now.modules.now name.now at.service at.kind (survey_text survey) spots.new.items
             asked.old.items asked.new.items) }
@@ -165,6 +170,8 @@ impl Checker<'_, '_> {
             service,
             kind,
             home: survey.reached.first().copied(),
+            is_only_included: is_only_included(self.rules, name, &survey),
+            is_greeter: is_greeter(name),
         };
         self.add_beside(&mut found.table, at, name, &survey)?;
         let left = other_answers(self, name, kind, &survey)?;

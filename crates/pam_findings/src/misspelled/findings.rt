@@ -2,12 +2,12 @@
 
 ghost use Rattle.std.specs.Prelude.{◌≡◌, ℕ, IfOk, List, OnOk, Option, map};
 ghost use Rattle.std.specs.Option.{option_map};
-ghost use Rattle.pam_findings.specs.misspelled.Findings.{misspelled_at, right_names, wrong_of};
+ghost use Rattle.pam_findings.specs.misspelled.Findings.{misspelled_at, right_names, wrong_at, wrong_of};
 ghost use Rattle.pam_findings.specs.misspelled.MisspelledView.{misspelled_view};
 ghost use Rattle.pam_findings.specs.misspelled.inner.MisspelledView.{right_view};
 ghost use Rattle.pam_findings.specs.misspelled.inner.Reading.{IsReading};
 
-use crate::host::{Finding, Place, Problem};
+use crate::host::{Finding, Place, Problem, is_outside};
 use crate::misspelled::reader::Reader;
 use crate::misspelled::right_words::{first_modules, first_names};
 use crate::misspelled::word::{Misspelled, RightNames, Wrong, misspelled_in};
@@ -40,7 +40,19 @@ fn wrong_of(problem: Problem) -> Option<Wrong>
         | Problem::BadArguments(_)
         | Problem::NotCounted { .. }
         | Problem::UnknownModule
-        | Problem::SuccessNeverCounts => None,
+        | Problem::SuccessNeverCounts
+        | Problem::LinkOutside => None,
+    }
+}
+
+/// Why a word is wrong at a finding, if it is at a file whose words may be told.
+fn wrong_at(outside: &[bool], entry: &(Place, Finding)) -> Option<Wrong>
+    ensures { result ≡ wrong_at outside.now entry.now }
+{
+    if is_outside(outside, entry.0.file) {
+        None
+    } else {
+        wrong_of(entry.1.problem)
     }
 }
 
@@ -49,16 +61,17 @@ fn wrong_of(problem: Problem) -> Option<Wrong>
 fn misspelled_at(
     alloc: Global,
     right: &RightNames<'_>,
+    outside: &[bool],
     reader: &mut Reader<'_>,
     entry: &(Place, Finding),
 ) -> Result<Option<Misspelled>, AllocError>
     requires reading { IsReading reader.old }
     ensures word { (there : Option (List (List ℕ))) → right_view right.now ≡ right_names reader.old.files.now there →
-        IfOk result (λ m. option_map misspelled_view m ≡ misspelled_at reader.old.files.now there entry.now) }
+        IfOk result (λ m. option_map misspelled_view m ≡ misspelled_at reader.old.files.now there outside.now entry.now) }
     ensures reading { OnOk result (IsReading reader.new) }
     ensures same { OnOk result (reader.new.files ≡ reader.old.files) }
 {
-    let Some(wrong) = wrong_of(entry.1.problem) else {
+    let Some(wrong) = wrong_at(outside, entry) else {
         return Ok(None);
     };
     reader.seek(entry.0.file, entry.0.line)?;
@@ -87,24 +100,26 @@ fn right_names<'a>(
 /// Returns for each finding the word that is wrong, with the nearest right word. A kind (E3), a control that is none at all (E4), and a
 /// return code and an action in brackets (E5, E6) are compared without case with those of pam.conf(5), the name of a target that is not
 /// there (E15) with the names of the first 1,000 files, the name of a module that is not there (S5) with the first 1,000 of the paths
-/// in `there`, and an argument (S15, S16) with those that its module knows. `None` for a finding that is not about a word.
+/// in `there`, and an argument (S15, S16) with those that its module knows. `None` for a finding that is not about a word,
+/// and for one at a file that is a link which leads out of its folder, by what `outside` says at its position: its words are not to be told.
 ///
 /// Takes time linear in the files and the findings, if the findings are in the order of their places.
 pub fn misspelled_words(
     alloc: Global,
     files: &Files,
     there: Option<&NameList>,
+    outside: &[bool],
     found: &[(Place, Finding)],
 ) -> Result<Vec<Option<Misspelled>>, AllocError>
     ensures { IfOk result (λ words. map (option_map misspelled_view) words.items
-        ≡ map (misspelled_at files.now (option_map (λ t. t.now) there.entry)) found.now) }
+        ≡ map (misspelled_at files.now (option_map (λ t. t.now) there.entry) outside.now) found.now) }
 {
     let arguments = Arguments::table(alloc)?;
     let right = right_names(alloc, files, there, &arguments)?;
     let mut reader = Reader::new(alloc, files);
     let mut words = Vec::new(alloc);
     for entry in found {
-        let word = misspelled_at(alloc, &right, &mut reader, entry)?;
+        let word = misspelled_at(alloc, &right, outside, &mut reader, entry)?;
         words.push(word)?;
     }
     Ok(words)

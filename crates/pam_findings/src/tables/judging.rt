@@ -2,8 +2,9 @@
 
 ghost use Rattle.std.specs.Prelude.{◌≡◌, ◌++◌, IfOk, OnOk, map};
 ghost use Rattle.pam_findings.specs.tables.inner.Passes.{need_view};
-ghost use Rattle.pam_findings.specs.tables.Tables.{access_problems, group_problems, of_difference, of_fault, of_time_fault, problems_for};
-ghost use Rattle.pam_findings.specs.tables.Tables.{tables_view, time_problems, unless_refused};
+ghost use Rattle.pam_findings.specs.tables.Needs.{OfGroups};
+ghost use Rattle.pam_findings.specs.tables.Tables.{access_problems, all_access_problems, group_problems, of_difference, of_fault, of_time_fault};
+ghost use Rattle.pam_findings.specs.tables.Tables.{problems_for, tables_view, time_problems, unless_refused};
 ghost use Rattle.pam_released.specs.tables.Access.{access_findings};
 ghost use Rattle.pam_released.specs.tables.Times.{time_findings};
 ghost use Rattle.pam_tables.specs.Faults.{access_faults as all_access_faults};
@@ -15,14 +16,15 @@ use crate::tables::problem::{HostTable, TableFinding, TableProblem};
 use pam_released::tables::TableFinding as Difference;
 use pam_tables::times::TimeError;
 use pam_tables::{AccessOptions, TableError};
-use pam_text::Source;
+use pam_text::{Source, Texts};
 use std::alloc::{AllocError, Global};
 
-fn of_fault(table: HostTable, error: &TableError) -> TableFinding
-    ensures { result ≡ of_fault table error.now }
+fn of_fault(table: HostTable, number: usize, error: &TableError) -> TableFinding
+    ensures { result ≡ of_fault table number error.now }
 {
     TableFinding {
         table,
+        number,
         line: error.line,
         problem: TableProblem::Fault(error.fault),
     }
@@ -33,16 +35,18 @@ fn of_time_fault(error: &TimeError) -> TableFinding
 {
     TableFinding {
         table: HostTable::Time,
+        number: 0,
         line: error.line,
         problem: TableProblem::TimeFault(error.fault),
     }
 }
 
-fn of_difference(table: HostTable, found: &Difference) -> TableFinding
-    ensures { result ≡ of_difference table found.now }
+fn of_difference(table: HostTable, number: usize, found: &Difference) -> TableFinding
+    ensures { result ≡ of_difference table number found.now }
 {
     TableFinding {
         table,
+        number,
         line: found.line,
         problem: TableProblem::Released(found.difference),
     }
@@ -52,12 +56,13 @@ fn of_difference(table: HostTable, found: &Difference) -> TableFinding
 fn push_differences(
     problems: &mut Vec<TableFinding>,
     table: HostTable,
+    number: usize,
     found: &[Difference],
 ) -> Result<(), AllocError>
-    ensures { OnOk result (problems.new.items ≡ problems.old.items ++ map (of_difference table) found.now) }
+    ensures { OnOk result (problems.new.items ≡ problems.old.items ++ map (of_difference table number) found.now) }
 {
     for difference in found {
-        problems.push(of_difference(table, difference))?;
+        problems.push(of_difference(table, number, difference))?;
     }
     Ok(())
 }
@@ -69,25 +74,26 @@ fn group_problems(alloc: Global, bytes: &[u8]) -> Result<Vec<TableFinding>, Allo
     let faults = pam_tables::group_faults(alloc, bytes)?;
     let mut problems = Vec::new(alloc);
     for error in &faults {
-        problems.push(of_fault(HostTable::Groups, error))?;
+        problems.push(of_fault(HostTable::Groups, 0, error))?;
     }
     Ok(problems)
 }
 
-/// Returns the faults of an access table.
-fn access_faults(
+/// Appends the faults of the access table of this number.
+fn push_access_faults(
     alloc: Global,
+    problems: &mut Vec<TableFinding>,
     options: &AccessOptions<'_>,
+    number: usize,
     bytes: &[u8],
-) -> Result<Vec<TableFinding>, AllocError>
-    ensures { IfOk result (λ problems. problems.items ≡ map (of_fault HostTable.Access) (all_access_faults options.now bytes.now)) }
+) -> Result<(), AllocError>
+    ensures { OnOk result (problems.new.items ≡ problems.old.items ++ map (of_fault HostTable.Access number) (all_access_faults options.now bytes.now)) }
 {
     let faults = pam_tables::access_faults(alloc, bytes, options)?;
-    let mut problems = Vec::new(alloc);
     for error in &faults {
-        problems.push(of_fault(HostTable::Access, error))?;
+        problems.push(of_fault(HostTable::Access, number, error))?;
     }
-    Ok(problems)
+    Ok(())
 }
 
 /// Returns the differences of an access table, which has none if it is too long or has a NUL byte.
@@ -104,17 +110,35 @@ fn access_differences(
     }
 }
 
-/// Returns the problems of an access table.
+/// Appends the problems of the access table of this number.
+fn push_access_problems(
+    alloc: Global,
+    problems: &mut Vec<TableFinding>,
+    options: &AccessOptions<'_>,
+    number: usize,
+    bytes: &[u8],
+) -> Result<(), AllocError>
+    ensures { OnOk result (problems.new.items ≡ problems.old.items ++ access_problems options.now number bytes.now) }
+{
+    push_access_faults(alloc, problems, options, number, bytes)?;
+    let found = access_differences(alloc, options, bytes)?;
+    push_differences(problems, HostTable::Access, number, &found)
+}
+
+/// Returns the problems of access tables, each judged by itself.
 fn access_problems(
     alloc: Global,
     options: &AccessOptions<'_>,
-    bytes: &[u8],
+    tables: &Texts,
 ) -> Result<Vec<TableFinding>, AllocError>
-    ensures { IfOk result (λ problems. problems.items ≡ access_problems options.now bytes.now) }
+    ensures { IfOk result (λ problems. problems.items ≡ all_access_problems options.now 0 tables.now) }
 {
-    let mut problems = access_faults(alloc, options, bytes)?;
-    let found = access_differences(alloc, options, bytes)?;
-    push_differences(&mut problems, HostTable::Access, &found)?;
+    // The length says that numbers stay in their type.
+    let _count = tables.len();
+    let mut problems = Vec::new(alloc);
+    for (number, bytes) in tables.iter().enumerate() {
+        push_access_problems(alloc, &mut problems, options, number, bytes)?;
+    }
     Ok(problems)
 }
 
@@ -146,8 +170,23 @@ fn time_problems(alloc: Global, bytes: &[u8]) -> Result<Vec<TableFinding>, Alloc
 {
     let mut problems = time_faults(alloc, bytes)?;
     let found = time_differences(alloc, bytes)?;
-    push_differences(&mut problems, HostTable::Time, &found)?;
+    push_differences(&mut problems, HostTable::Time, 0, &found)?;
     Ok(problems)
+}
+
+/// Returns the problems of the group file, if it is given beside an access table.
+fn groups_problems(alloc: Global, tables: &HostTables<'_>) -> Result<Vec<TableFinding>, AllocError>
+    ensures { IfOk result (λ problems. problems.items ≡ problems_for (tables_view tables.now) OfGroups) }
+{
+    match (tables.access, tables.groups) {
+        (Some(access), Some(bytes)) => {
+            if access.len() == 0 {
+                return Ok(Vec::new(alloc));
+            }
+            group_problems(alloc, bytes)
+        }
+        _ => Ok(Vec::new(alloc)),
+    }
 }
 
 /// Returns the problems of a table that is needed, if it is given.
@@ -158,12 +197,12 @@ pub(crate) fn problems_for(
 ) -> Result<Vec<TableFinding>, AllocError>
     ensures { IfOk result (λ problems. problems.items ≡ problems_for (tables_view tables.now) (need_view need.now)) }
 {
-    match (need, tables.access, tables.groups, tables.time) {
-        (Needed::Groups, Some(_), Some(bytes), _) => group_problems(alloc, bytes),
-        (Needed::Access(arguments), Some(bytes), _, _) => {
-            access_problems(alloc, &AccessOptions::of(arguments), bytes)
+    match (need, tables.access, tables.time) {
+        (Needed::Groups, _, _) => groups_problems(alloc, tables),
+        (Needed::Access(arguments), Some(access), _) => {
+            access_problems(alloc, &AccessOptions::of(arguments), access)
         }
-        (Needed::Time, _, _, Some(bytes)) => time_problems(alloc, bytes),
+        (Needed::Time, _, Some(bytes)) => time_problems(alloc, bytes),
         _ => Ok(Vec::new(alloc)),
     }
 }

@@ -18,7 +18,7 @@ use std::alloc::{AllocError, Global};
 #[derive(Drop)]
 pub(crate) enum Needed {
     Groups,
-    /// The access table, with these arguments of the module.
+    /// The access tables, with these arguments of the module.
     Access(Texts),
     Time,
 }
@@ -57,7 +57,7 @@ fn has_time(needs: &[Needed]) -> bool
     false
 }
 
-/// Whether the access table is known to be needed with the same options.
+/// Whether the access tables are known to be needed with the same options.
 fn has_access(needs: &[Needed], options: &AccessOptions<'_>) -> bool
     ensures { IsTrue result → Member (OfAccess options.now) (map need_view needs.now) }
 {
@@ -203,8 +203,8 @@ fn add_service(
     add_kind(alloc, needs, rules, service, Kind::Session)
 }
 
-/// Returns the tables that the stacks of these services need, the access table once for each of the options under which it is
-/// read.
+/// Returns the tables that the stacks of these services need, the access tables once for each of the options under which they
+/// are read.
 pub(crate) fn needs_of(
     alloc: Global,
     rules: &RuleFiles<'_>,

@@ -12,7 +12,7 @@ use pam_tables::times::TimeFault;
 pub enum HostTable {
     /// The group file, which pam_access reads.
     Groups,
-    /// The access table, of pam_access.
+    /// An access table, of pam_access.
     Access,
     /// The time table, of pam_time.
     Time,
@@ -33,6 +33,8 @@ pub enum TableProblem {
 #[derive(Clone, Copy, Debug, PartialEq, Eq)]
 pub struct TableFinding {
     pub table: HostTable,
+    /// Which of the access tables, from 0 in the order in which they are read; 0 for another table.
+    pub number: usize,
     /// From 1; 0 for the table as a whole.
     pub line: u32,
     pub problem: TableProblem,
@@ -41,8 +43,10 @@ pub struct TableFinding {
 /// The place of a problem. Places are in the order in which problems are listed.
 #[derive(Clone, Copy, Debug, PartialEq, Eq, PartialOrd, Ord)]
 pub struct TablePlace {
-    /// The group file is 0, the access table 1, the time table 2.
+    /// The group file is 0, an access table 1, the time table 2.
     pub table: u8,
+    /// Which of the access tables, from 0; 0 for another table.
+    pub number: usize,
     /// From 1; 0 for the table as a whole.
     pub line: u32,
     /// Problems of one line are in the order of their ranks: faults, and then differences, by number.
@@ -138,6 +142,7 @@ impl TableFinding {
     {
         TablePlace {
             table: self.table.rank(),
+            number: self.number,
             line: self.line,
             rank: self.problem.rank(),
         }

@@ -42,10 +42,10 @@ pub struct TableReport {
 impl TableReport {
     /// Looks at the tables that the stacks of these services need, each for all four kinds.
     ///
-    /// A module `pam_access.so` needs the access table and the group file, unless an argument begins with `accessfile=`; in a
-    /// stack of `account` a module `pam_time.so` needs the time table, unless an argument begins with `conffile=`. An access
-    /// table is read with the module's arguments, once for equal options. A table that is not given, or that nothing needs,
-    /// has no problems. Takes time in proportion to the rules that the stacks walk, and for each of the options to the table.
+    /// A module `pam_access.so` needs the access tables and the group file, unless an argument begins with `accessfile=`; in a
+    /// stack of `account` a module `pam_time.so` needs the time table, unless an argument begins with `conffile=`. Each access
+    /// table is read by itself, with the module's arguments, once for equal options. A table that is not given, or that nothing
+    /// needs, has no problems. Takes time in proportion to the rules that the stacks walk, and for each of the options to the table.
     pub fn of(
         alloc: Global,
         files: &Files,

@@ -15,7 +15,7 @@ use Rattle.pam_policy.specs.text.Tests.{TestText, key_of}
 
 -- ---- lists without elements
 
-both_empty : {X : Type 0} (xs ys : List X) → xs ++ ys ≡ [] → (xs ≡ []) × (ys ≡ [])
+pub both_empty : {X : Type 0} (xs ys : List X) → xs ++ ys ≡ [] → (xs ≡ []) × (ys ≡ [])
 both_empty [] ys h = (refl, h)
 both_empty (x ∷ xs) ys h = absurd cc
 
@@ -54,7 +54,7 @@ module _ {X Y : Type 0} (f : X → Option Y) where
   seen_step None ys h = (refl, h)
   seen_step (Some y) ys h = absurd cc
 
-  none_seen : (xs : List X) → filter_map f xs ≡ [] → (x : X) → Member x xs → f x ≡ None
+  pub none_seen : (xs : List X) → filter_map f xs ≡ [] → (x : X) → Member x xs → f x ≡ None
   unfolding Member
   none_seen [] none x h = absurd h
   none_seen (y ∷ xs) none x (inl e) = ap f e ∙ (seen_step (f y) (filter_map f xs) none).0

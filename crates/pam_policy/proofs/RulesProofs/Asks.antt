@@ -1,5 +1,5 @@
 -- The modules that a stack asks are its own, and their allowed answers are codes.
-use Rattle.std.proofs.Common.{◌≡◌, ℕ, ◌<◌, ◌≤◌, List, [], ◌∷◌, inl, inr, sym, subst, ap, arith}
+use Rattle.std.proofs.Common.{ℕ, ◌<◌, ◌≤◌, List, inl, inr, sym, subst, arith}
 use Rattle.pam_conf.specs.Stack.{Items, IsNumbered, module_count}
 use Rattle.pam_dispatch.specs.Runs.{Ask, Assignment, AsksRise, Runs, asked_by, asks, ends, outcome_of}
 use Rattle.pam_dispatch.specs.State.{start_state}

@@ -1,12 +1,12 @@
 -- The first of two runs is the first of those of which either is the first.
-use Rattle.std.proofs.Common.{◌≡◌, ◌⊎◌, ℕ, ◌<◌, ◌≤◌, ◌||◌, ◌&&◌, Bool, true, false, inl, inr, sym, ◌∙◌, ap, subst, cond, arith, length, eqb, Option, None, Some}
+use Rattle.std.proofs.Common.{◌≡◌, ◌⊎◌, ◌<◌, ◌≤◌, ◌||◌, ◌&&◌, Bool, true, false, inl, inr, sym, ◌∙◌, ap, subst, cond, arith, length, eqb, Option, None, Some}
 use Rattle.std.proofs.lemmas.Bool.{cases_eq, cases_lt, eq-eqb, le-ltb, lt-ltb, ne_eqb}
 use Rattle.pam_conf.specs.Stack.{Items}
 use Rattle.pam_dispatch.specs.Runs.{Assignment}
 use Rattle.pam_policy.specs.declared.search.run.Run.{Run}
 use Rattle.pam_policy.specs.rules.inner.Choosing.{SaysFirst, comes_before, first_of, is_before}
 use Rattle.pam_policy.specs.search.inner.Distances.{IsFirst}
-use Rattle.pam_policy.specs.search.Runs.{ComesBefore, RunValue, run_of, run_value}
+use Rattle.pam_policy.specs.search.Runs.{RunValue, run_of, run_value}
 use Rattle.pam_policy.proofs.RulesProofs.Order.{IsAtMost, Tells, most-trans, tell-stack}
 
 -- what holds of the same runs has the same first one

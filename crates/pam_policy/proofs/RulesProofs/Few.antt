@@ -14,9 +14,9 @@ use Rattle.pam_policy.specs.declared.text.place.Place.TheVariants.{Needs, Obeys,
 use Rattle.pam_policy.specs.rules.Judging.{AreTooMany, IsReason}
 use Rattle.pam_policy.specs.text.Error.{◌>>=◌}
 use Rattle.pam_policy.specs.text.Events.{EventText, event_of}
-use Rattle.pam_policy.specs.text.Lists.{EventsText, OneOf, EachOf, Read, bare_codes, events_of, goes_on, is_limited, joined, joint_before, joint_of}
+use Rattle.pam_policy.specs.text.Lists.{EventsText, Read, bare_codes, events_of, goes_on, is_limited, joined, joint_before, joint_of}
 use Rattle.pam_policy.specs.text.Lists.{roomy, with_joint}
-use Rattle.pam_policy.specs.text.Sentences.{ConditionText, SentenceText, Never, Can, Before, always, asked, asking, asking_condition, completed, condition_of}
+use Rattle.pam_policy.specs.text.Sentences.{ConditionText, SentenceText, Never, Can, always, asked, asking, asking_condition, completed, condition_of}
 use Rattle.pam_policy.specs.text.Sentences.{ending_condition, ending_of, events_after, needing_read, nothing_said, obeying_read, says_something, sentence_of}
 
 -- STEPS OF READING that succeed

@@ -1,5 +1,5 @@
 -- Marks of events happen where the events do.
-use Rattle.std.proofs.Common.{◌≡◌, ◌⊎◌, ℕ, Bool, true, false, List, [], ◌∷◌, inl, inr, refl, sym, ◌∙◌, ap, subst, map}
+use Rattle.std.proofs.Common.{◌≡◌, ◌⊎◌, Bool, List, [], ◌∷◌, inl, inr, refl, sym, ◌∙◌, subst}
 use Rattle.std.proofs.lemmas.Bool.{cases_Bool, false≢true}
 use Rattle.std.specs.List.{list_any}
 use Rattle.pam_codes.specs.Set.{is_in}
@@ -10,12 +10,12 @@ use Rattle.pam_paths.proofs.Listings.{Member-map, Member-map_back}
 use Rattle.pam_policy.specs.declared.search.marks.Marks.{Marks}
 use Rattle.pam_policy.specs.rules.Happening.{EventsHappen, HappensAmong, SomeHappens, event_answers}
 use Rattle.pam_policy.specs.rules.Site.{SiteText}
-use Rattle.pam_policy.specs.rules.inner.Marking.{AreMarks, AreMarksOf, groups_of, singles}
+use Rattle.pam_policy.specs.rules.inner.Marking.{AreMarks, AreMarksOf, groups_of}
 use Rattle.pam_policy.specs.search.Marks.{codes_at}
 use Rattle.pam_policy.specs.search.Queries.{HappensAt}
 use Rattle.pam_policy.specs.text.Events.{EventText}
 use Rattle.pam_policy.specs.text.Lists.{EventsText, OneOf, EachOf}
-use Rattle.pam_policy.proofs.RulesProofs.Asks.{AreOwn, IsOwn}
+use Rattle.pam_policy.proofs.RulesProofs.Asks.{AreOwn}
 use Rattle.pam_policy.proofs.RulesProofs.Lists.{any-back, any-of, each-or, some-or}
 
 -- an event that is marked happens at one of these modules

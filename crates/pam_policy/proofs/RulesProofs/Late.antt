@@ -1,5 +1,5 @@
 -- The runs in which events happen too late are those that some queries find.
-use Rattle.std.proofs.Common.{◌≡◌, ◌⊎◌, ℕ, false, List, [], ◌∷◌, ◌++◌, inl, inr, refl, sym, ◌∙◌, subst, Option}
+use Rattle.std.proofs.Common.{◌≡◌, ◌⊎◌, ℕ, false, List, [], ◌∷◌, ◌++◌, inl, inr, refl, sym, subst, Option}
 use Rattle.pam_conf.specs.Stack.{IsNumbered, module_count}
 use Rattle.pam_dispatch.specs.Runs.{Ask, Assignment}
 use Rattle.pam_paths.specs.Listing.{Allowance, IsAllowed}
@@ -9,7 +9,7 @@ use Rattle.pam_policy.specs.declared.search.marks.Marks.{Marks}
 use Rattle.pam_policy.specs.declared.search.query.Query.{Query}
 use Rattle.pam_policy.specs.declared.search.query.Query.TheVariants.{Before}
 use Rattle.pam_policy.specs.declared.search.run.Run.{Run}
-use Rattle.pam_policy.specs.rules.Happening.{PartText, SomeHappens}
+use Rattle.pam_policy.specs.rules.Happening.{PartText}
 use Rattle.pam_policy.specs.rules.Settling.{asked_in}
 use Rattle.pam_policy.specs.rules.Site.{SiteText}
 use Rattle.pam_policy.specs.rules.inner.Choosing.{SaysFirst, first_of}

@@ -2,7 +2,7 @@
 use Rattle.std.proofs.Common.{◌≡◌, ◌⊎◌, ℕ, ◌<◌, Bool, true, false, List, [], ◌∷◌, inl, inr, refl, sym, ◌∙◌, ap, subst, cond, arith, ltb}
 use Rattle.std.proofs.lemmas.Bool.{cases_lt, le-ltb, lt-ltb}
 use Rattle.pam_conf.specs.Stack.{Items}
-use Rattle.pam_dispatch.specs.Runs.{Ask, Assignment, Runs, asked_by, asks, ends, final_state, outcome_of}
+use Rattle.pam_dispatch.specs.Runs.{Assignment, Runs, asked_by, asks, ends, final_state, outcome_of}
 use Rattle.pam_dispatch.specs.Tree.{runs_of_stack}
 use Rattle.pam_policy.specs.declared.search.run.Step.{Step}
 use Rattle.pam_policy.specs.rules.inner.Choosing.{comes_before}

@@ -106,7 +106,7 @@ one_bad set all i item inside is none =
 
 -- ---- the codes that are left
 
-in_all : (code : ℕ) → code < 31 → is_in code all_codes ≡ true
+pub in_all : (code : ℕ) → code < 31 → is_in code all_codes ≡ true
 unfolding all_codes
 in_all code low = is_in-codes_where (λ c. true) code low
 

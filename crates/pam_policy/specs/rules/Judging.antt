@@ -1,5 +1,5 @@
 -- Whether a rule holds at a stack, and the run that shows it.
-use Rattle.std.specs.Prelude.{◌≡◌, ◌⊎◌, ◌≤◌, ◌<◌, ℕ, List, Option, Some, None, length}
+use Rattle.std.specs.Prelude.{◌≡◌, ◌⊎◌, ◌≤◌, ◌<◌, Option, Some, None, length}
 use Rattle.pam_conf.specs.Stack.{module_count}
 use Rattle.pam_dispatch.specs.Runs.{Assignment}
 use Rattle.pam_paths.specs.Listing.{Allowance, IsAllowed}

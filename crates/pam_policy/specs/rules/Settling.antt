@@ -8,7 +8,7 @@ use Rattle.pam_policy.specs.rules.Happening.{PartHappens, PartText, SomeHappens}
 use Rattle.pam_policy.specs.rules.Site.{SiteText}
 use Rattle.pam_policy.specs.text.Events.{EventText}
 use Rattle.pam_policy.specs.text.Lists.{EventsText, events_in}
-use Rattle.pam_policy.specs.text.Sentences.{ConditionText, SentenceText, Never, Can, Before, decisions}
+use Rattle.pam_policy.specs.text.Sentences.{SentenceText, Never, Can, Before, decisions}
 
 -- the modules that are asked in a run, in turn
 abbrev pub asked_in : SiteText → Assignment → List Ask

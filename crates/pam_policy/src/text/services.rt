@@ -16,7 +16,7 @@ use pam_facts::Kinds;
 use pam_text::cut;
 use std::alloc::Global;
 
-/// The services that a rule is about, by names in which `*` stands for any bytes. Case is ignored.
+/// The services that a rule is about. A `*` in a name matches any bytes, and case is ignored.
 #[derive(Drop)]
 pub struct Services<'a> {
     /// The names of tokens without `!`, of which there is at least one.

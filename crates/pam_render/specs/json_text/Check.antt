@@ -93,7 +93,7 @@ way_array way = array (option_map_or (λ w. items_of (map (answer_object w.stack
 
 -- of S2 alone
 abbrev pub answers_array : List (Option WayIn) → Problem → Data
-answers_array ways (problems.LetsAnybodyIn service) = way_array (slice_index_or ways service None)
+answers_array ways (problems.LetsAnybodyIn service is_greeter) = way_array (slice_index_or ways service None)
 answers_array ways problem = array no_items
 
 -- THE LINE of a finding
@@ -122,7 +122,7 @@ other_json file at level name said = line (place_members file at level name said
 -- that of a problem of a table
 abbrev pub table_json : TablePathsText → TableFinding → List ℕ
 table_json paths finding =
-    other_json (path_of_table paths finding.table) finding.line (level_of_table_problem finding.problem) (table_problem_name finding.problem)
+    other_json (path_of_table paths finding.table finding.number) finding.line (level_of_table_problem finding.problem) (table_problem_name finding.problem)
     (joined (table_parts finding.problem))
 
 -- that of a line of the accept file that accepts nothing

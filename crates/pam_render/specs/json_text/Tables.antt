@@ -5,7 +5,7 @@ use Rattle.pam_tables.specs.declared.access.AccessAnswer.{AccessAnswer}
 use Rattle.pam_tables.specs.declared.access.AccessAnswer.TheVariants as access
 use Rattle.pam_tables.specs.declared.times.table.TimeAnswer.{TimeAnswer}
 use Rattle.pam_tables.specs.declared.times.table.TimeAnswer.TheVariants as times
-use Rattle.serde_json.specs.Data.{Data, boolean}
+use Rattle.serde_json.specs.Data.{Data, boolean, string}
 
 abbrev pub is_granted : AccessAnswer → Bool
 is_granted (access.Granted at) = true
@@ -16,13 +16,18 @@ abbrev pub access_line : AccessAnswer → Option ℕ
 access_line (access.Granted at) = at
 access_line (access.Denied at) = Some at
 
-abbrev pub access_members : AccessAnswer → List (List ℕ × Data)
-access_members answer =
-    kind (codes "access") ∷ (codes "granted", boolean (is_granted answer)) ∷ (codes "line", number_or_null (access_line answer)) ∷ []
+-- the table of the line, where several are given
+abbrev pub table_member : Option (List ℕ) → List (List ℕ × Data)
+table_member None = []
+table_member (Some table) = (codes "table", string table) ∷ []
 
--- THE JSON of `access`
-abbrev pub access_json : AccessAnswer → List ℕ
-access_json answer = line (access_members answer)
+abbrev pub access_members : AccessAnswer → Option (List ℕ) → List (List ℕ × Data)
+access_members answer table =
+    kind (codes "access") ∷ (codes "granted", boolean (is_granted answer)) ∷ (codes "line", number_or_null (access_line answer)) ∷ table_member table
+
+-- THE JSON of `access`, with the name of the table where several are given
+abbrev pub access_json : AccessAnswer → Option (List ℕ) → List ℕ
+access_json answer table = line (access_members answer table)
 
 abbrev pub is_allowed : TimeAnswer → Bool
 is_allowed times.Granted = true

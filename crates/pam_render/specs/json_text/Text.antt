@@ -17,7 +17,7 @@ use Rattle.pam_render.specs.json_text.Tables.{access_json, time_json}
 abbrev pub IsJson : Reply → Result (List ℕ) CursorError → Type 0
 IsJson (Stack stack) text = text ≡ Ok (stack_json stack)
 IsJson (Run run) text = text ≡ Ok (run_json run)
-IsJson (Access found) text = text ≡ Ok (access_json found)
+IsJson (Access answer table) text = text ≡ Ok (access_json answer table)
 IsJson (Time found) text = text ≡ Ok (time_json found)
 IsJson (Outcomes outcomes) text = text ≡ Ok (outcomes_json outcomes)
 IsJson (Page page) text = IsPageJson page text
@@ -29,7 +29,7 @@ IsJson reply text = ⊥
 abbrev pub has_json : Reply → Bool
 has_json (Stack stack) = true
 has_json (Run run) = true
-has_json (Access found) = true
+has_json (Access answer table) = true
 has_json (Time found) = true
 has_json (Outcomes outcomes) = true
 has_json (Page page) = true

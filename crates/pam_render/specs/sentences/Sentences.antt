@@ -112,8 +112,13 @@ inside_sentence =
 abbrev pub no_function_sentence : List ℕ
 no_function_sentence = codes "the module has no function for this kind, so it always answers module_unknown; remove the rule"
 
+-- S14: in the service of a daemon, and in one that may be that of another program
+abbrev pub daemon_sentence : List ℕ
+daemon_sentence = codes "the module looks at the user of the process, which in this service is always root; remove the rule"
+
 abbrev pub caller_sentence : List ℕ
-caller_sentence = codes "the module looks at the user of the process, which in this service is always root; remove the rule"
+caller_sentence =
+    codes "the module looks at the user of the process, which is root where a daemon asks; remove the rule unless users start the program"
 
 abbrev pub unknown_module_sentence : List ℕ
 unknown_module_sentence =
@@ -123,6 +128,10 @@ unknown_module_sentence =
 abbrev pub vain_sentence : List ℕ
 vain_sentence =
     codes "whenever the module answers success, the stack fails, whatever other modules answer; mend its control, or what a success leads to"
+
+-- S27
+abbrev pub link_sentence : List ℕ
+link_sentence = codes "the file is a link that leads out of the folder, so none of its words are shown; copy the file here, if it belongs here"
 
 -- S15 to S18 and S23, where the argument is not known
 abbrev pub argument_sentence : List ℕ
@@ -180,7 +189,7 @@ problem_sentence (problems.Released difference) = []
 problem_sentence problems.EmptySeparator = []
 problem_sentence (problems.IncludedFromVendor is_at_include) = if is_at_include then at_included_sentence else included_sentence
 problem_sentence (problems.LetsNobodyIn service kind) = nobody_sentence
-problem_sentence (problems.LetsAnybodyIn service) = anybody_sentence
+problem_sentence (problems.LetsAnybodyIn service is_greeter) = anybody_sentence
 problem_sentence problems.NeverAsked = asked_sentence
 problem_sentence problems.JumpPastEnd = jump_sentence
 problem_sentence (problems.NoModule is_dashed) = no_module_sentence
@@ -191,12 +200,13 @@ problem_sentence (problems.OtherAnswers service kind has_no_rule lets_nobody_in)
 problem_sentence problems.LeftOver = left_over_sentence
 problem_sentence problems.JumpIntoInclude = inside_sentence
 problem_sentence problems.NoFunction = no_function_sentence
-problem_sentence (problems.CallerIsRoot is_daemon) = caller_sentence
+problem_sentence (problems.CallerIsRoot is_daemon) = if is_daemon then daemon_sentence else caller_sentence
 problem_sentence (problems.Argument argument wrong) = argument_sentence
 problem_sentence (problems.BadArguments lack) = lack_sentence lack
 problem_sentence (problems.NotCounted counts) = if counts then not_refused_sentence else not_counted_sentence
 problem_sentence problems.UnknownModule = unknown_module_sentence
 problem_sentence problems.SuccessNeverCounts = vain_sentence
+problem_sentence problems.LinkOutside = link_sentence
 
 -- WHAT IS SAID of a problem at a line, with the word that is wrong if it is known
 abbrev pub said : ℕ → Problem → Option MisspelledText → List ℕ

@@ -116,7 +116,7 @@ met_unless services met (Some stack) = []
 
 -- the first way in, or the stacks that meet the problem
 abbrev pub rest_text : Names → Option Met → Problem → List ℕ
-rest_text names met (problems.LetsAnybodyIn service) = way_in_at names.ways_in service
+rest_text names met (problems.LetsAnybodyIn service is_greeter) = way_in_at names.ways_in service
 rest_text names met problem = met_unless names.services met (stack_of problem)
 
 -- what is wrong, how to mend it, and which stacks meet it; with the word that is wrong, if it is known
@@ -131,7 +131,7 @@ finding_line names entry word =
 
 -- A LINE FOR A PROBLEM OF A TABLE: `PATH:LINE: LEVEL: NUMBER NAME: SENTENCE`
 abbrev pub table_place : TablePathsText → TableFinding → List ℕ
-table_place paths finding = shown_name (path_of_table paths finding.table) ++ number_text finding.line ++ codes ": "
+table_place paths finding = shown_name (path_of_table paths finding.table finding.number) ++ number_text finding.line ++ codes ": "
 
 abbrev pub table_heading : TableFinding → List ℕ
 table_heading finding =

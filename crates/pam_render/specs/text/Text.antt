@@ -23,7 +23,7 @@ abbrev pub IsText : Reply → Result (List ℕ) CursorError → Type 0
 IsText (Stack stack) text = text ≡ Ok (stack_text stack)
 IsText (Released rules) text = text ≡ Ok (released_text rules)
 IsText (Run run) text = text ≡ Ok (run_text run)
-IsText (Access found) text = text ≡ Ok (access_text found)
+IsText (Access answer table) text = text ≡ Ok (access_text answer table)
 IsText (Time found) text = text ≡ Ok (time_text found)
 IsText (Outcomes outcomes) text = text ≡ Ok (outcomes_text outcomes)
 IsText (Drawing drawing) text = IsDrawingText drawing text

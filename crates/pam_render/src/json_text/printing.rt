@@ -27,7 +27,7 @@ pub fn print_if_any<W: Write>(
     match reply {
         Reply::Stack(stack) => Some(with_write_fault(write_stack(&AsJson, alloc, stack, out))),
         Reply::Run(run) => Some(with_write_fault(write_run(run, out))),
-        Reply::Access(answer) => Some(with_write_fault(write_access(*answer, out))),
+        Reply::Access(access) => Some(with_write_fault(write_access(*access, out))),
         Reply::Time(answer) => Some(with_write_fault(write_time(*answer, out))),
         Reply::Outcomes(outcomes) => Some(with_write_fault(write_outcomes(outcomes, out))),
         Reply::Paths(page) => Some(PageJson { page }.write(alloc, out)),

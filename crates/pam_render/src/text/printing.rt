@@ -64,7 +64,7 @@ fn print_text<W: Write>(alloc: Global, reply: &Reply<'_>, out: &mut Out<W>) -> R
         Reply::Stack(stack) => with_write_fault(write_stack(&AsText, alloc, stack, out)),
         Reply::Released(rules) => with_write_fault(write_released(rules, out)),
         Reply::Run(run) => with_write_fault(write_run(run, out)),
-        Reply::Access(answer) => with_write_fault(write_access(*answer, out)),
+        Reply::Access(access) => with_write_fault(write_access(*access, out)),
         Reply::Time(answer) => with_write_fault(write_time(*answer, out)),
         Reply::Outcomes(outcomes) => with_write_fault(write_outcomes(outcomes, out)),
         Reply::Check(check) => write_check(&AsText, alloc, check, out),

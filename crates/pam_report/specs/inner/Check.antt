@@ -1,5 +1,5 @@
 -- For private contracts and proofs alone: which findings are reported, and which are not.
-use Rattle.std.specs.Prelude.{◌≡◌, ◌≢◌, ⊤, ℕ, List, Ok, Err}
+use Rattle.std.specs.Prelude.{◌≡◌, ◌≢◌, ⊤, ℕ, List, Ok, Err, Option, map}
 use Rattle.std.specs.BTreeMap.{BTreeMap}
 use Rattle.pam_findings.specs.accepted.Lines.{Accepted, accepted_lines}
 use Rattle.pam_findings.specs.declared.accepted.error.AcceptError.TheVariants as accept
@@ -7,16 +7,18 @@ use Rattle.pam_conf.specs.Files.{Folder}
 use Rattle.pam_facts.specs.Reading.{known_rows}
 use Rattle.pam_facts.specs.Rows.{Row}
 use Rattle.pam_facts.specs.declared.error.FactsFault.TheVariants as facts_faults
+use Rattle.pam_findings.specs.host.Links.{WithLinks, told_way}
 use Rattle.pam_findings.specs.host.Report.{IsReport}
 use Rattle.pam_conf.specs.Services.{checked_services}
 use Rattle.pam_findings.specs.declared.host.problem.Place.{Place}
 use Rattle.pam_findings.specs.declared.host.report.Finding.{Finding}
 use Rattle.pam_findings.specs.declared.host.report.HostReport.{HostReport}
+use Rattle.pam_findings.specs.declared.host.way_in.WayIn.{WayIn}
 use Rattle.pam_findings.specs.tables.Report.{IsTableReport}
 use Rattle.pam_findings.specs.declared.tables.problem.TableFinding.{TableFinding}
 use Rattle.pam_findings.specs.declared.tables.problem.TablePlace.{TablePlace}
 use Rattle.pam_report.specs.Accepting.{table_findings}
-use Rattle.pam_report.specs.Inputs.{accept_given, facts_given, host_tables_given, there_given, vendor_start_given}
+use Rattle.pam_report.specs.Inputs.{accept_given, facts_given, host_tables_given, outside_given, there_given, vendor_start_given}
 use Rattle.pam_report.specs.declared.fault.Fault.{Fault}
 use Rattle.pam_report.specs.declared.fault.Fault.TheVariants as faults
 use Rattle.pam_report.specs.TablePaths.{TablePathsText}
@@ -29,7 +31,11 @@ pub record IsReported (services : List (List ℕ)) (files : Folder) (inputs : In
   pub facts : List Row
   pub known : known_rows (facts_given inputs) ≡ Ok facts
   pub are_services : report.services ≡ checked_services files services
-  pub is_report : IsReport files (vendor_start_given inputs) services facts (there_given inputs) report.found report.ways_in.items
+  pub plain : BTreeMap Place Finding
+  pub ways : List (Option WayIn)
+  pub is_report : IsReport files (vendor_start_given inputs) services facts (there_given inputs) plain ways
+  pub links : WithLinks (outside_given inputs) plain report.found
+  pub told_ways : report.ways_in.items ≡ map (told_way (outside_given inputs)) ways
 
 -- a fault of the facts file, or a failed allocation
 abbrev pub IsUnreported : Inputs → Fault → Type 0

@@ -10,7 +10,7 @@ use Rattle.pam_facts.specs.settings.Settings.{SettingText}
 use Rattle.pam_tables.specs.Error.{FailsAt}
 use Rattle.pam_tables.specs.Returns.{ReturnLine}
 use Rattle.pam_tables.specs.declared.error.Table.TheVariants as tables
-use Rattle.pam_tables.specs.declared.error.TableError.{TableError}
+use Rattle.pam_facts.specs.declared.known.error.NumberedError.{NumberedError}
 use Rattle.pam_report.specs.Inputs.{facts_given, returns_given}
 use Rattle.pam_report.specs.declared.fault.Fault.{Fault}
 use Rattle.pam_report.specs.declared.fault.Fault.TheVariants as faults
@@ -27,10 +27,11 @@ pub record IsFound (service : Option (List ℕ)) (kind : Option Kind) (settings 
   pub are_changes : AreChanges (sides_of inputs facts returns settings) (names_of service) kind changes
 
 -- a fault of the returns file, which is given
-pub record IsReturnsFault (inputs : Inputs) (e : TableError) : Type 0 where
+pub record IsReturnsFault (inputs : Inputs) (e : NumberedError) : Type 0 where
   pub given : is_some (returns_given inputs) ≡ true
-  pub table : e.table ≡ tables.Returns
-  pub fault : FailsAt e.fault e.line (lines_of (returns_given inputs))
+  pub first : e.number ≡ 1
+  pub table : e.error.table ≡ tables.Returns
+  pub fault : FailsAt e.error.fault e.error.line (lines_of (returns_given inputs))
 
 -- a key that names no module, where the files have no fault
 pub record IsKeyFault (settings : List SettingText) (inputs : Inputs) : Type 0 where

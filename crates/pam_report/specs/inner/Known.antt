@@ -39,7 +39,7 @@ IsFaultOf told faults.Memory = ⊤
 IsFaultOf told faults.Device = ⊥
 IsFaultOf told (faults.Cursor e) = ⊥
 IsFaultOf told (faults.Conf e) = IsConfFault (IsErrOf told) e e.kind
-IsFaultOf told (faults.Table e) = IsTableFault (IsErrOf told) e e.fault
+IsFaultOf told (faults.Table e) = IsTableFault (IsErrOf told) e e.error.fault
 IsFaultOf told (faults.Time e) = IsTimeFault (IsErrOf told) e e.fault
 IsFaultOf told fault = told ≡ Err fault
 

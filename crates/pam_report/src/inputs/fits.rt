@@ -31,9 +31,14 @@ impl Inputs {
             }
             (Inputs::Stack(_), Task::Show { .. }) => true,
             (Inputs::Stack(_), Task::Decide { .. }) => true,
-            (Inputs::Access { groups, .. }, Task::Access { groups: named, .. }) => {
-                groups.is_some() == named.is_some()
-            }
+            (
+                Inputs::Access { tables, groups },
+                Task::Access {
+                    tables: names,
+                    groups: named,
+                    ..
+                },
+            ) => { tables.len() == names.len() && groups.is_some() == named.is_some() }
             (Inputs::Time { .. }, Task::Time { .. }) => true,
             (inputs, Task::Paths { knowledge, .. }) => inputs.fits_knowledge(knowledge),
             (inputs, Task::Outcomes { knowledge, .. }) => inputs.fits_knowledge(knowledge),
@@ -54,7 +59,7 @@ impl Inputs {
             Inputs::Paths { given, .. } => {
                 given.facts.is_some() == named.answers.facts_file().is_some()
                     && given.returns.is_some() == named.returns.is_some()
-                    && has_named_tables(named.tables, &given.tables)
+                    && has_named_tables(&named.tables, &given.tables)
             }
             _ => false,
         }
@@ -69,11 +74,11 @@ fn has_paths(files: &Files, paths: &Texts) -> bool
 }
 
 /// Whether each table that is named is given.
-fn has_named_tables(named: TableNames<'_>, given: &TableFiles) -> bool
-    ensures { result ≡ has_named_tables named.entry given.now }
+fn has_named_tables(named: &TableNames<'_>, given: &TableFiles) -> bool
+    ensures { result ≡ has_named_tables named.now given.now }
 {
     (named.groups.is_none() || given.groups.is_some())
-        && (named.access.is_none() || given.access.is_some())
+        && named.access.len() <= given.access.contents.len()
         && (named.time.is_none() || given.time.is_some())
 }
 
@@ -83,7 +88,7 @@ fn fits_check(named: &CheckFiles<'_>, given: &CheckInputs) -> bool
 {
     given.facts.is_some() == named.facts.is_some()
         && given.accept.is_some() == named.accept.is_some()
-        && has_named_tables(named.tables, &given.tables)
+        && has_named_tables(&named.tables, &given.tables)
 }
 
 /// Whether these are the contents of exactly the facts file and the returns file that are named.

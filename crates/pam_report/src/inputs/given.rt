@@ -13,7 +13,7 @@ impl Inputs {
     ghost use Rattle.std.specs.Prelude.{◌≡◌, [], option_map};
     ghost use Rattle.std.specs.Option.{option_map_or};
     ghost use Rattle.pam_report.specs.Inputs.{accept_given, access_given, facts_given, files_given};
-    ghost use Rattle.pam_report.specs.Inputs.{group_file, host_tables_given, new_given, old_given, paths_given, returns_given};
+    ghost use Rattle.pam_report.specs.Inputs.{group_file, host_tables_given, new_given, old_given, outside_given, paths_given, returns_given};
     ghost use Rattle.pam_report.specs.Inputs.{table_paths_given, there_given, time_given, vendor_start_given};
     ghost use Rattle.pam_report.specs.TablePaths.{table_paths_view};
     ghost use Rattle.pam_findings.specs.tables.Tables.{tables_view as host_tables_view};
@@ -51,6 +51,16 @@ impl Inputs {
         match self {
             Inputs::Host { given, .. } => given.vendor_start,
             _ => 0,
+        }
+    }
+
+    /// Returns by the position of each file of `check` whether it is a link that leads out of its folder.
+    pub(crate) fn outside(&self) -> &[bool]
+        ensures { result.now ≡ outside_given self.now }
+    {
+        match self {
+            Inputs::Host { given, .. } => given.outside.as_slice(),
+            _ => &[],
         }
     }
 
@@ -113,7 +123,7 @@ impl Inputs {
         match self {
             Inputs::Host { given, .. } => HostTables {
                 groups: table_bytes(&given.tables.groups),
-                access: table_bytes(&given.tables.access),
+                access: Some(&given.tables.access.contents),
                 time: table_bytes(&given.tables.time),
             },
             _ => HostTables {
@@ -131,12 +141,12 @@ impl Inputs {
         match self {
             Inputs::Host { given, .. } => TablePaths {
                 groups: table_path(&given.tables.groups),
-                access: table_path(&given.tables.access),
+                access: Some(&given.tables.access.paths),
                 time: table_path(&given.tables.time),
             },
             _ => TablePaths {
                 groups: b"",
-                access: b"",
+                access: None,
                 time: b"",
             },
         }
@@ -152,13 +162,13 @@ impl Inputs {
         }
     }
 
-    /// Returns the access table of `access`, which is empty for other commands.
-    pub(crate) fn access_table(&self) -> &[u8]
-        ensures { result.now ≡ access_given self.now }
+    /// Returns the access tables of `access`.
+    pub(crate) fn access_tables(&self) -> Option<&Texts>
+        ensures { option_map_or (λ tables. tables.now) result [] ≡ access_given self.now }
     {
         match self {
-            Inputs::Access { table, .. } => table.as_slice(),
-            _ => b"",
+            Inputs::Access { tables, .. } => Some(tables),
+            _ => None,
         }
     }
 

@@ -64,7 +64,7 @@ pub(crate) fn tables_with<'a>(given: Given<'a>, time: &Option<TimedTable<'a>>) -
         Inputs::Paths { given, .. } => Tables {
             there: given.there.as_ref(),
             groups: table_bytes(&given.tables.groups),
-            access: table_bytes(&given.tables.access),
+            access: Some(&given.tables.access.contents),
             time: copied(time),
             returns: slice_given(&given.returns),
             facts,

@@ -26,7 +26,7 @@ use crate::tables::{TablePaths, table_problem_level};
 use pam_conf::{Files, Form};
 use pam_facts::Facts;
 use pam_findings::accepted::AcceptFile;
-use pam_findings::host::laws::a_silent_host_is_sound;
+use pam_findings::host::laws::{a_silent_host_is_sound, links_are_notes};
 use pam_findings::host::{Finding, HostReport, Level, Place};
 use pam_findings::misspelled::{Misspelled, misspelled_words};
 use pam_findings::tables::{TableFinding, TableReport};
@@ -123,15 +123,18 @@ fn report(
         Ok(facts) => facts,
         Err(error) => return Err(facts_fault(error)),
     };
-    match HostReport::of(
+    let Ok(mut report) = HostReport::of(
         alloc,
         files,
         inputs.vendor_start(),
         services,
         &facts,
         inputs.there(),
-    ) {
-        Ok(report) => Ok(report),
+    ) else {
+        return Err(Fault::Memory);
+    };
+    match report.add_links(inputs.outside()) {
+        Ok(()) => Ok(report),
         Err(_) => Err(Fault::Memory),
     }
 }
@@ -239,10 +242,17 @@ fn checked_services<'a>(
     ensures wants { WantsOnly (of_stack true) result }
 {
     a_silent_host_is_sound();
+    links_are_notes();
     let report = report(alloc, asked.services, files, inputs)?;
     let paths = inputs.table_paths();
     let listed = list_unaccepted(alloc, files, &report, inputs, paths)?;
-    let Ok(misspelled) = misspelled_words(alloc, files, inputs.there(), &listed.found) else {
+    let Ok(misspelled) = misspelled_words(
+        alloc,
+        files,
+        inputs.there(),
+        inputs.outside(),
+        &listed.found,
+    ) else {
         return Err(Fault::Memory);
     };
     Ok(Reply::Check(CheckReply {

@@ -23,6 +23,7 @@ use crate::services::require_either;
 use pam_changes::{HostChanges, Side, Sides};
 use pam_conf::{Files, Form, Kind};
 use pam_facts::Facts;
+use pam_facts::known::NumberedError;
 use pam_facts::settings::Setting;
 use pam_tables::{ReturnTable, TableError};
 use pam_text::Texts;
@@ -91,7 +92,8 @@ fn side<'x>(given: Option<&'x SideInputs>, none: &'x Files) -> Side<'x>
 
 /// Reads the returns file, if one is given.
 fn returns<'x>(alloc: Global, inputs: &'x Inputs) -> Result<Option<ReturnTable<'x>>, TableError>
-    ensures { MatchResult result (λ table. lines_of (returns_given inputs.now) ≡ Ok table) (IsReturnsFault inputs.now) }
+    ensures { MatchResult result (λ table. lines_of (returns_given inputs.now) ≡ Ok table)
+        (λ e. IsReturnsFault inputs.now record { number = 1; error = e }) }
 {
     let Some(bytes) = inputs.returns_file() else {
         return Ok(None);
@@ -148,7 +150,7 @@ fn found(alloc: Global, asked: CompareRequest<'_>, inputs: &Inputs) -> Result<Ho
     };
     let returns = match returns(alloc, inputs) {
         Ok(returns) => returns,
-        Err(error) => return Err(Fault::Table(error)),
+        Err(error) => return Err(Fault::Table(NumberedError::first(error))),
     };
     match are_named(alloc, inputs, asked.settings) {
         Ok(true) => {}

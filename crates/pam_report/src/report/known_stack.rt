@@ -23,6 +23,7 @@ use pam_facts::settings::Setting;
 use pam_paths::Known;
 use pam_tables::Login as TableLogin;
 use pam_tables::times::MomentError;
+use pam_text::Texts;
 use pam_words::{Answers, Login};
 use std::alloc::Global;
 
@@ -85,8 +86,9 @@ fn known_with(
         IfErr result (IsFaultOfRead (tables_read kind tables stack.now)) }
 {
     let tables = tables_with(given, time);
-    // Its type is named here, since the proof of what is lent has to find it.
+    // Their types are named here, since the proof of what is lent has to find them.
     let _there: Option<&NameList> = tables.there;
+    let _access: Option<&Texts> = tables.access;
     known_by(alloc, kind, login, stack, &tables)
 }
 

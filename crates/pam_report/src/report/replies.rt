@@ -18,6 +18,15 @@ use pam_explain::Explanation;
 use pam_tables::AccessAnswer;
 use pam_tables::times::TimeAnswer;
 
+/// Which line of the access tables decides.
+#[derive(Clone, Copy)]
+pub struct AccessReply<'a> {
+    /// The answer, with the number of the line.
+    pub answer: AccessAnswer,
+    /// The name of the line's table, where several are named and a line decides.
+    pub table: Option<&'a str>,
+}
+
 /// The value that answers a request.
 #[derive(Drop)]
 pub enum Reply<'a> {
@@ -28,7 +37,7 @@ pub enum Reply<'a> {
     /// Of `decide`.
     Run(RunReply<'a>),
     /// Of `access`.
-    Access(AccessAnswer),
+    Access(AccessReply<'a>),
     /// Of `time`.
     Time(TimeAnswer),
     /// Of `paths`.
@@ -60,7 +69,7 @@ impl Reply<'_> {
     {
         match self {
             Reply::Run(run) => status_of_decision(run.trace.decision),
-            Reply::Access(answer) => status_of_access(*answer),
+            Reply::Access(access) => status_of_access(access.answer),
             Reply::Time(answer) => status_of_time(*answer),
             Reply::Check(check) => check.status(),
             Reply::Compared(compared) => compared.status(),

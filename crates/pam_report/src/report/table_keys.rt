@@ -21,7 +21,7 @@ impl Keys<TableFinding> for TablePaths<'_> {
     fn key(&self, alloc: Global, found: &TableFinding) -> Result<Vec<u8>, AllocError> {
         let number = number_in(table_problem_name(found.problem).as_bytes());
         let mut key = Vec::from_slice(alloc, number)?;
-        let name = name_of_path(self.of(found.table));
+        let name = name_of_path(self.of(found.table, found.number));
         push_line(&mut key, name, found.line as usize)?;
         Ok(key)
     }

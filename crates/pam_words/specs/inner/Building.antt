@@ -7,9 +7,10 @@ use Rattle.clap.specs.Words.{App, Rule, Shape, Text, app_of, new_app, with_rule,
 use Rattle.clap.specs.declared.builder.Command.{Command}
 use Rattle.clap.specs.declared.builder.Command.TheViews.{out-Command as fields_of}
 use Rattle.pam_words.specs.Words.{bare_app, flag_rule, number_rule, option_rule, optional_rule, repeated_option_rule, repeated_rule}
-use Rattle.pam_words.specs.Words.{pamcheck_app, required_option_rule, required_rule}
+use Rattle.pam_words.specs.Words.{pamcheck_app, required_option_rule, required_options_rule, required_rule}
 use Rattle.pam_words.specs.declared.arguments.ArgForm.{ArgForm}
-use Rattle.pam_words.specs.declared.arguments.ArgForm.TheVariants.{Positional, OptionalPositional, Repeated, Optional, RepeatedOption, Required, Number, Flag}
+use Rattle.pam_words.specs.declared.arguments.ArgForm.TheVariants.{Positional, OptionalPositional, Repeated, Optional, RepeatedOption, Required, RequiredRepeated}
+use Rattle.pam_words.specs.declared.arguments.ArgForm.TheVariants.{Number, Flag}
 use Rattle.pam_words.specs.declared.arguments.ArgRow.{ArgRow}
 use Rattle.pam_words.specs.declared.arguments.Argument.{Argument}
 use Rattle.pam_words.specs.declared.arguments.Argument.TheVariants as argument
@@ -28,6 +29,7 @@ rule_in_form Repeated id = repeated_rule id
 rule_in_form Optional id = option_rule id
 rule_in_form RepeatedOption id = repeated_option_rule id
 rule_in_form Required id = required_option_rule id
+rule_in_form RequiredRepeated id = required_options_rule id
 rule_in_form Number id = number_rule id
 rule_in_form Flag id = flag_rule id
 
@@ -59,7 +61,7 @@ rule_of_argument argument.Root = option_rule (codes "root")
 rule_of_argument argument.With = repeated_option_rule (codes "with")
 rule_of_argument argument.Release = option_rule (codes "as")
 rule_of_argument argument.Modules = repeated_option_rule (codes "modules")
-rule_of_argument argument.HostAccess = option_rule (codes "access")
+rule_of_argument argument.HostAccess = repeated_option_rule (codes "access")
 rule_of_argument argument.HostTime = option_rule (codes "time")
 rule_of_argument argument.Facts = option_rule (codes "facts")
 rule_of_argument argument.Accept = option_rule (codes "accept")
@@ -74,7 +76,7 @@ rule_of_argument argument.Answers = option_rule (codes "answers")
 rule_of_argument argument.User = option_rule (codes "user")
 rule_of_argument argument.Rhost = option_rule (codes "rhost")
 rule_of_argument argument.Tty = option_rule (codes "tty")
-rule_of_argument argument.Access = option_rule (codes "access")
+rule_of_argument argument.Access = repeated_option_rule (codes "access")
 rule_of_argument argument.Time = option_rule (codes "time")
 rule_of_argument argument.Group = option_rule (codes "group")
 rule_of_argument argument.Returns = option_rule (codes "returns")
@@ -83,7 +85,7 @@ rule_of_argument argument.SetByName = repeated_option_rule (codes "set")
 rule_of_argument argument.At = option_rule (codes "at")
 rule_of_argument argument.AtUnix = option_rule (codes "at-unix")
 rule_of_argument argument.Zone = option_rule (codes "zone")
-rule_of_argument argument.AccessTable = required_option_rule (codes "access")
+rule_of_argument argument.AccessTables = required_options_rule (codes "access")
 rule_of_argument argument.TimeTable = required_option_rule (codes "time")
 rule_of_argument argument.TableUser = required_option_rule (codes "user")
 rule_of_argument argument.Json = flag_rule (codes "json")

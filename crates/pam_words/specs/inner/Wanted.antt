@@ -8,6 +8,7 @@ use Rattle.pam_words.specs.Asked.{Refusal, TaskText}
 use Rattle.pam_words.specs.Values.{texts_of}
 use Rattle.pam_words.specs.declared.wanted.CheckFiles.{CheckFiles}
 use Rattle.pam_words.specs.declared.wanted.CompareFiles.{CompareFiles}
+use Rattle.pam_words.specs.declared.wanted.TableNames.{TableNames}
 use Rattle.pam_words.specs.declared.wanted.Task.{Task}
 use Rattle.pam_words.specs.declared.wanted.Usage.{Usage}
 use Rattle.pam_words.specs.declared.wanted.Usage.TheVariants as usage
@@ -23,12 +24,16 @@ IsRefusalOf error (usage.Help e) = (kind_of e ≡ kind_of error) × IsHelp (kind
 IsRefusalOf error (usage.Words e) = (kind_of e ≡ kind_of error) × (IsHelp (kind_of e) → ⊥) × (kind_of e ≢ OutOfMemory)
 IsRefusalOf error _ = ⊥
 
--- for private contracts alone: what a check reads besides the configuration
+-- the names of the group file and the tables
+pub record AreTableNames (rows : List Row) (tables : TableNames) : Type 0 where
+  pub access : map (λ s. s.now) tables.access.items ≡ texts_of (codes "access") rows
+  pub time : option_copied tables.time ≡ first_of (codes "time") rows
+  pub groups : option_copied tables.groups ≡ first_of (codes "group") rows
+
+-- what a check reads besides the configuration
 pub record IsGiven (rows : List Row) (given : CheckFiles) : Type 0 where
   pub modules : map (λ s. s.now) given.modules.items ≡ texts_of (codes "modules") rows
-  pub access : option_copied given.tables.access ≡ first_of (codes "access") rows
-  pub time : option_copied given.tables.time ≡ first_of (codes "time") rows
-  pub groups : option_copied given.tables.groups ≡ first_of (codes "group") rows
+  pub tables : AreTableNames rows given.tables
   pub facts : option_copied given.facts ≡ first_of (codes "facts") rows
   pub accept : option_copied given.accept ≡ first_of (codes "accept") rows
 

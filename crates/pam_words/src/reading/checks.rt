@@ -9,7 +9,7 @@ ghost use Rattle.pam_words.specs.Wanted.{source_view};
 ghost use Rattle.pam_words.specs.inner.Wanted.{GivesTask, IsGiven};
 
 use crate::reading::candidates::services;
-use crate::reading::knowledge::{folders, has, tables};
+use crate::reading::knowledge::{has, names, tables};
 use crate::reading::{source, value};
 use crate::wanted::{CheckFiles, ConfSource, LevelName, Task, Usage};
 use clap::ArgMatches;
@@ -65,8 +65,8 @@ fn given<'a>(alloc: Global, matches: &ArgMatches<'a>) -> Result<CheckFiles<'a>, 
     ensures { IfOk result (λ given. IsGiven (rows_of (found_of matches.now)) given) }
 {
     Ok(CheckFiles {
-        modules: folders(alloc, matches)?,
-        tables: tables(matches),
+        modules: names(alloc, matches, "modules")?,
+        tables: tables(alloc, matches)?,
         facts: value(matches, "facts"),
         accept: value(matches, "accept"),
     })

@@ -7,7 +7,7 @@ ghost use Rattle.pam_words.specs.Values.{kind_if_named as kind_in, side_in, side
 ghost use Rattle.pam_words.specs.Wanted.{source_view};
 ghost use Rattle.pam_words.specs.inner.Wanted.{GivesTask, IsCompareGiven};
 
-use crate::reading::knowledge::folders;
+use crate::reading::knowledge::names;
 use crate::reading::settings::settings;
 use crate::reading::{is_on, text, value};
 use crate::wanted::{CompareFiles, ConfSource, Task, Usage};
@@ -62,7 +62,7 @@ fn given<'a>(
     ensures settings { IfOk result (λ given. given.settings ≡ settings.entry) }
 {
     Ok(CompareFiles {
-        modules: folders(alloc, matches)?,
+        modules: names(alloc, matches, "modules")?,
         facts: value(matches, "facts"),
         returns: value(matches, "returns"),
         settings,

@@ -1,14 +1,14 @@
 //! Reads what a request says of the answers of modules, and an `outcomes` request.
 
-ghost use Rattle.std.specs.Prelude.{◌≡◌, IfOk, codes, map, option_map};
+ghost use Rattle.std.specs.Prelude.{◌≡◌, IfOk, map, option_map};
 ghost use Rattle.std.specs.Option.{option_copied};
-ghost use Rattle.clap.specs.Words.{first_of, found_of, rows_of};
+ghost use Rattle.clap.specs.Words.{found_of, rows_of};
 ghost use Rattle.pam_words.specs.Request.{knowledge_of, possible_knowledge_of};
 ghost use Rattle.pam_words.specs.Values.{has as has_value, lacks_user as lacks_user_in, texts_of};
 ghost use Rattle.pam_words.specs.Request.{moment_if_needed as moment_if_needed_in, outcomes_task};
 ghost use Rattle.pam_words.specs.Values.{answers_named as answers_of_name, answers_of, needs_moment as needs_moment_in};
 ghost use Rattle.pam_words.specs.Wanted.{Gives, answers_view, knowledge_view, moment_view};
-ghost use Rattle.pam_words.specs.inner.Wanted.{GivesTask};
+ghost use Rattle.pam_words.specs.inner.Wanted.{AreTableNames, GivesTask};
 
 use crate::reading::settings::settings;
 use crate::reading::{login, moment, stack, value, values};
@@ -49,30 +49,32 @@ fn moment_if_needed<'a>(matches: &ArgMatches<'a>) -> Result<Option<Moment<'a>>, 
     Ok(Some(moment))
 }
 
-/// Returns the folders of modules that are named, in order.
-pub(crate) fn folders<'a>(
+/// Returns all values of an id, in order.
+pub(crate) fn names<'a>(
     alloc: Global,
     matches: &ArgMatches<'a>,
+    id: &str,
 ) -> Result<Vec<&'a str>, AllocError>
-    ensures { IfOk result (λ v. map (λ s. s.now) v.items ≡ texts_of (codes "modules") (rows_of (found_of matches.now))) }
+    ensures { IfOk result (λ v. map (λ s. s.now) v.items ≡ texts_of id.now (rows_of (found_of matches.now))) }
 {
-    match values(matches, "modules") {
+    match values(matches, id) {
         Some(names) => Vec::from_slice(alloc, names),
         None => Ok(Vec::new(alloc)),
     }
 }
 
 /// Reads the names of the group file and the tables.
-pub(crate) fn tables<'a>(matches: &ArgMatches<'a>) -> TableNames<'a>
-    ensures groups { option_copied result.groups ≡ first_of (codes "group") (rows_of (found_of matches.now)) }
-    ensures access { option_copied result.access ≡ first_of (codes "access") (rows_of (found_of matches.now)) }
-    ensures time { option_copied result.time ≡ first_of (codes "time") (rows_of (found_of matches.now)) }
+pub(crate) fn tables<'a>(
+    alloc: Global,
+    matches: &ArgMatches<'a>,
+) -> Result<TableNames<'a>, AllocError>
+    ensures { IfOk result (λ tables. AreTableNames (rows_of (found_of matches.now)) tables) }
 {
-    TableNames {
+    Ok(TableNames {
         groups: value(matches, "group"),
-        access: value(matches, "access"),
+        access: names(alloc, matches, "access")?,
         time: value(matches, "time"),
-    }
+    })
 }
 
 fn answers_named<'a>(facts: Option<&'a str>, name: &str) -> Option<Answers<'a>>
@@ -114,13 +116,16 @@ pub(crate) fn knowledge<'a>(
         return Err(Usage::Login);
     }
     let moment = moment_if_needed(matches)?;
-    let Ok(modules) = folders(alloc, matches) else {
+    let Ok(modules) = names(alloc, matches, "modules") else {
+        return Err(Usage::Memory);
+    };
+    let Ok(tables) = tables(alloc, matches) else {
         return Err(Usage::Memory);
     };
     Ok(KnowledgeSource {
         modules,
         login: login(matches),
-        tables: tables(matches),
+        tables,
         returns: value(matches, "returns"),
         settings,
         moment,

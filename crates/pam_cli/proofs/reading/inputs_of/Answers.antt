@@ -30,4 +30,4 @@ pub returns-in-Access : goal.returns-in-Access
 returns-in-Access g c =
     let candidates = map candidate_view c.args.request.now.candidates.items in
     subst (λ t. IsReading (g.S.System.told c.args.system.now) candidates t c.access_inputs.result) (sym c.in-Access.is)
-    (c.access_inputs.ensures candidates c.in-Access.login c.in-Access.arguments)
+    (c.access_inputs.ensures candidates c.in-Access.tables c.in-Access.login c.in-Access.arguments c.deref-in-Access.ensures.value)

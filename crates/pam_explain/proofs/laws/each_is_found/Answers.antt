@@ -4,6 +4,7 @@ use Rattle.pam_explain.specs.Arguments.{unknown_argument, weak_hash}
 use Rattle.pam_explain.specs.Explanations.{families}
 use Rattle.pam_explain.specs.Hosts.{caller_is_root, jump_into_include, jump_past_end, left_over, lets_anybody_in, lets_nobody_in, never_asked}
 use Rattle.pam_explain.specs.Hosts.{no_function, no_module, no_other, nothing_accepted, other_answers, too_large, unreachable_name}
+use Rattle.pam_explain.specs.Links.{link_outside}
 use Rattle.pam_explain.specs.Modules.{success_never_counts, unknown_module}
 use Rattle.pam_explain.specs.Named.{answers_name, failed_read, failed_write, no_such_service, unused_candidate}
 use Rattle.pam_explain.specs.OldTables.{blank_in_token, empty_separator, finish_minute, leading_blank, long_field, loopback, mask_digits}
@@ -37,5 +38,5 @@ unfolding families caller_is_root jump_into_include jump_past_end left_over lets
     login memory_of_words moment no_such_key no_such_module no_such_number not_utf8 failed_read release_form setting_form source failed_write
     no_such_service unused_candidate answers_name
     argument_of_other_kind bad_arguments bad_value_of_arguments longer_word not_counted unknown_argument weak_hash
-    success_never_counts unknown_module
+    success_never_counts unknown_module link_outside
 returns c = refl

@@ -6,13 +6,12 @@ use Rattle.pam_codes.specs.Set.{is_in, IsCodeSet}
 use Rattle.pam_conf.specs.Stack.{Items, ModuleText}
 use Rattle.pam_paths.specs.Known.{answers_by, set_for}
 use Rattle.pam_paths.specs.declared.knowledge.Known.{Known}
-use Rattle.pam_tables.specs.Access.{access_answer, table_of}
 use Rattle.pam_tables.specs.Groups.{Group}
 use Rattle.pam_tables.specs.Login.{LoginText, login_view}
 use Rattle.pam_tables.specs.Options.{Options}
-use Rattle.pam_tables.specs.declared.error.Table.TheVariants.{Access}
 use Rattle.pam_facts.specs.declared.known.error.KnownError.{KnownError}
-use Rattle.pam_facts.specs.known.Answers.{IsFault, access_code, access_read, read_as, result_map, table_answer, time_read, time_told}
+use Rattle.pam_facts.specs.known.Access.{result_map, tables_decide}
+use Rattle.pam_facts.specs.known.Answers.{IsFault, access_code, access_read, among_known, if_any, table_answer, time_read, time_told}
 use Rattle.pam_facts.specs.known.Knowledge.{codes_by, first_fault, numbers, reads_access, said_at, told_at}
 use Rattle.pam_facts.specs.known.Reads.{TablesRead, reads_time}
 use Rattle.pam_facts.specs.known.Tables.{TablesText, tables_view}
@@ -38,19 +37,21 @@ told_of_number l items number = told_at l.kind (login_view l.login.now) (tables_
 abbrev pub said_of : Lookup → Items → ℕ → List ℕ
 said_of l items number = said_at l.kind (tables_view l.tables.now).facts items number
 
--- the code that an access table tells, read under these options
-abbrev pub told_under : LoginText → List Group → Options → List ℕ → Result ℕ KnownError
-told_under login groups options bytes = result_map (λ table. access_code (access_answer table login groups)) (read_as Access (table_of options bytes))
+-- the code that access tables tell, read under these options
+abbrev pub told_under : LoginText → List Group → Options → List (List ℕ) → Result ℕ KnownError
+told_under login groups options contents =
+    among_known (result_map (λ decision. access_code decision.answer) (tables_decide login groups options contents))
 
 -- whether the time table tells this code
 abbrev pub IsTimeCode : Lookup → ℕ → Type 0
 IsTimeCode l code = option_map (time_told (login_view l.login.now)) (tables_view l.tables.now).time ≡ Some (Ok code)
 
--- whether the access table tells this code under these options
+-- whether the access tables tell this code under these options
 abbrev pub IsAccessCode : Lookup → Options → ℕ → Type 0
-IsAccessCode l options code = option_map (told_under (login_view l.login.now) l.groups options) (tables_view l.tables.now).access ≡ Some (Ok code)
+IsAccessCode l options code =
+    option_map (told_under (login_view l.login.now) l.groups options) (if_any (tables_view l.tables.now).access) ≡ Some (Ok code)
 
--- each kept code is what a table tells, that of the access table under the options that it is kept for
+-- each kept code is what a table tells, that of the access tables under the options that it is kept for
 pub record IsKept (l : Lookup) (kept : Kept) : Type 0 where
   pub time : IfSome kept.by_time (IsTimeCode l)
   pub access : All (λ (a : AccessCode). IsAccessCode l a.options a.code) kept.by_options.items
@@ -86,7 +87,7 @@ TellsAll n told said numbers (Err e) = IsFault e (first_fault told numbers ≡ S
 
 -- ---- the tables that are read
 
--- an access table or a time table, and no other file
+-- access tables or a time table, and no other file
 abbrev pub of_module : Bool → Bool → TablesRead
 of_module access time = record { groups = false; access = access; time = time; returns = false }
 
@@ -102,7 +103,7 @@ some_read l items =
     of_module (list_any (reads_access (tables_view l.tables.now) items) (numbers items))
     (list_any (reads_time l.kind (tables_view l.tables.now) items) (numbers items))
 
--- the group file, if it is given and a module reads the access table
+-- the group file, if it is given and a module reads the access tables
 abbrev pub of_groups : TablesText → Items → TablesRead
 of_groups tables items = record {
   groups = is_some tables.groups && list_any (reads_access tables items) (numbers items);
@@ -115,7 +116,7 @@ of_groups tables items = record {
 abbrev pub all_given : TablesText → TablesRead
 all_given tables = record {
   groups = is_some tables.groups;
-  access = is_some tables.access;
+  access = is_some (if_any tables.access);
   time = is_some tables.time;
   returns = is_some tables.returns;
 }

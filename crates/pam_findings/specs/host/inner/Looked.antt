@@ -10,7 +10,7 @@ use Rattle.pam_conf.specs.declared.rule.Kind.TheVariants.{Auth}
 use Rattle.pam_paths.specs.declared.knowledge.Known.{Known}
 use Rattle.pam_text.specs.Members.{Member}
 use Rattle.pam_findings.specs.host.Modules.{Modules}
-use Rattle.pam_findings.specs.host.StackProblems.{ByVerdict, HasWayIn, InStack, IsAt, MayAsk, ModuleHas}
+use Rattle.pam_findings.specs.host.StackProblems.{ByVerdict, HasWayIn, InStack, IsAt, MayAsk, ModuleHas, StackAt}
 use Rattle.pam_findings.specs.host.inner.Table.{Adds}
 use Rattle.pam_findings.specs.host.Verdicts.{IsVerdict, Judgement, SaysWhoLogsIn, Verdict, refuses_all}
 use Rattle.pam_findings.specs.declared.host.judging.Stacked.{Stacked}
@@ -76,12 +76,22 @@ pub record Tells (kind : Kind) (verdict : Verdict) (told : Told) : Type 0 where
   pub way_in : kind ≡ Auth → HasWayIn verdict told.way_in
   pub nobody : told.lets_nobody_in ≡ refuses_all verdict
 
+-- which stack this is
+abbrev pub at_of : Stacked → StackAt
+at_of at = record {
+  service = at.service;
+  kind = at.kind;
+  home = at.home;
+  is_only_included = at.is_only_included;
+  is_greeter = at.is_greeter;
+}
+
 -- some verdict on a stack, the problems that it gives, the rules that it may ask, and what is told of it
 pub record Judges (folder : Folder) (modules : Modules) (name : List ℕ) (at : Stacked) (items : Items) (old new asked more : List Spot)
     (told : Told) : Type 0 where
   pub verdict : Verdict
   pub is_verdict : IsVerdict folder modules name at.kind verdict
-  pub adds : Adds (λ spot. ByVerdict at.service at.kind at.home verdict spot spot.problem) old new
+  pub adds : Adds (λ spot. ByVerdict (at_of at) verdict spot spot.problem) old new
   pub asks : Adds (Asks (Some items) verdict) asked more
   pub tells : Tells at.kind verdict told
 
@@ -90,6 +100,6 @@ pub record Looks (folder : Folder) (modules : Modules) (name : List ℕ) (servic
     (spots asked more : List Spot) (told : Told) : Type 0 where
   pub verdict : Verdict
   pub is_verdict : IsVerdict folder modules name kind verdict
-  pub adds : Adds (InStack modules service name kind survey verdict) [] spots
+  pub adds : Adds (InStack folder modules service name kind survey verdict) [] spots
   pub asks : Adds (Asks survey.items verdict) asked more
   pub tells : Tells kind verdict told

@@ -1,5 +1,5 @@
 -- For private contracts and proofs alone: the first of two runs.
-use Rattle.std.specs.Prelude.{ℕ, ◌==◌, ◌&&◌, ◌||◌, Bool, true, false, nat_lt, if◌then◌else◌, List, [], ◌∷◌, length, MatchOption, Option, None, Some}
+use Rattle.std.specs.Prelude.{◌==◌, ◌&&◌, ◌||◌, Bool, true, false, nat_lt, if◌then◌else◌, List, [], ◌∷◌, length, MatchOption, Option, None, Some}
 use Rattle.pam_policy.specs.declared.rules.verdict.Verdict.{Verdict}
 use Rattle.pam_policy.specs.declared.rules.verdict.Verdict.TheVariants.{Holds, Broken, Shown, Impossible}
 use Rattle.pam_policy.specs.declared.search.run.Run.{Run}

@@ -165,7 +165,7 @@ pub(super) fn put_table_finding<W: Write>(
 {
     let problem = finding.problem;
     put_other(
-        paths.of(finding.table),
+        paths.of(finding.table, finding.number),
         finding.line as usize,
         table_problem_level(problem),
         table_problem_name(problem),

@@ -166,7 +166,7 @@ fn put_answers<W: Write>(
     ensures { Writes W.contents out.old out.new result (compact_text (answers_array ways.now problem)) }
 {
     match problem {
-        Problem::LetsAnybodyIn { service } => put_way_at(ways, service, out),
+        Problem::LetsAnybodyIn { service, .. } => put_way_at(ways, service, out),
         _ => out.put(b"[]"),
     }
 }

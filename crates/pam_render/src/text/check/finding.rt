@@ -167,7 +167,7 @@ fn put_rest<W: Write>(names: &Names<'_>, finding: Finding, out: &mut Out<W>) -> 
     ensures { Writes W.contents out.old out.new result (rest_text (names_view names.now) finding.met finding.problem) }
 {
     match finding.problem {
-        Problem::LetsAnybodyIn { service } => put_way_in(names, service, out),
+        Problem::LetsAnybodyIn { service, .. } => put_way_in(names, service, out),
         _ => put_met_unless(names, finding.met, stack_of(finding.problem), out),
     }
 }

@@ -10,8 +10,8 @@ pub returns : goal.returns
 returns c free =
     adds-judged c.args.at (judgement_of c.args.stack.now free c.args.failing.now c.args.soundness.now)
     c.lets_nobody_in-nobody.result c.lets_anybody_in-anybody.result
-    (says c.lets_nobody_in-nobody.result c.lets_nobody_in-nobody.ensures.yes (λ f p. c.lets_nobody_in-nobody.ensures.no f p.0 p.1))
-    (says c.lets_anybody_in-anybody.result c.lets_anybody_in-anybody.ensures.yes (λ f p. c.lets_anybody_in-anybody.ensures.no f p.0 p.1))
+    (says c.lets_nobody_in-nobody.result c.lets_nobody_in-nobody.ensures.yes (λ f p. c.lets_nobody_in-nobody.ensures.no f p.0 p.1 p.2))
+    (says c.lets_anybody_in-anybody.result c.lets_anybody_in-anybody.ensures.yes (λ f p. c.lets_anybody_in-anybody.ensures.no f p.0 p.1 p.2))
     c.args.spots.now.items c.push_whole.new.spots.items c.push_whole-2.new.spots.items c.push_jumps.new.spots.items
     c.push_vain.new.spots.items c.push_halves.new.spots.items
     c.in_ok-push_whole.ensures c.in_ok-push_whole-2.ensures

@@ -10,6 +10,7 @@ pub loop-entry-preserved : goal.loop-entry-preserved
 loop-entry-preserved c =
     let files = c.args.files.now in
     let there = option_map (λ t. t.now) c.args.there in
+    let outside = c.args.outside.now in
     let so_far = c.loop-entry.invariant in
     let same = so_far.same in
     let told = c.in_ok-word.ensures.word there (c.in_ok-right.ensures ∙ ap (λ (folder : Folder). right_names folder there) (sym same)) in
@@ -17,6 +18,6 @@ loop-entry-preserved c =
       reading = c.in_ok-word.ensures.reading;
       same = ap (λ (f : Bor Folder). f.now) c.in_ok-word.ensures.same ∙ same;
       words =
-          words-more (option_map misspelled_view) (misspelled_at files there) c.args.found.now c.loop-entry.entry-index _ c.loop-entry.words.items
+          words-more (option_map misspelled_view) (misspelled_at files there outside) c.args.found.now c.loop-entry.entry-index _ c.loop-entry.words.items
           c.push.new.self.items c.in_ok-word.word c.loop-entry-test.true so_far.words c.in_ok-push.ensures.items (rw same at told);
     }

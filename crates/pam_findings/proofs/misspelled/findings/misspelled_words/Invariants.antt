@@ -10,5 +10,5 @@ abbrev pub invariant-loop-entry : goal.invariant-loop-entry
 invariant-loop-entry l = record {
   reading : IsReading l.reader;
   same : l.reader.files.now ≡ l.files;
-  words : map (option_map misspelled_view) l.words.items ≡ map (misspelled_at l.files (option_map (λ t. t.now) l.there)) (take l.entry-index l.found);
+  words : map (option_map misspelled_view) l.words.items ≡ map (misspelled_at l.files (option_map (λ t. t.now) l.there) l.outside) (take l.entry-index l.found);
 }

@@ -5,4 +5,4 @@ use Rattle.pam_findings.proofs.tables.judging.group_problems.Given as goal
 
 -- the faults so far are added
 abbrev pub invariant-loop-error : goal.invariant-loop-error
-invariant-loop-error l = l.problems.items ≡ map (of_fault Groups) (take l.error-index l.error-items)
+invariant-loop-error l = l.problems.items ≡ map (of_fault Groups 0) (take l.error-index l.error-items)

@@ -5,13 +5,13 @@ use Rattle.pam_findings.specs.tables.Needs.{IsNeeded}
 use Rattle.pam_findings.specs.tables.inner.Passes.{Adds, need_view}
 use Rattle.pam_findings.specs.tables.Tables.{tables_view}
 use Rattle.pam_findings.specs.declared.tables.needs.Needed.{Needed}
-use Rattle.pam_findings.proofs.TablesProofs.Reporting.{no-problems, none-given, problems-of}
+use Rattle.pam_findings.proofs.TablesProofs.Reporting.{no-access-given, no-problems, none-given, problems-of}
 use Rattle.pam_findings.proofs.tables.report.put_problems.Goals as goal
 
 pub returns-then-is_none-2 : goal.returns-then-is_none-2
 returns-then-is_none-2 c =
     no-problems c.args.files.now c.args.services.now (tables_view c.args.tables.now) c.args.found.now
-    (none-given c.args.tables.now.access (c.is_none.ensures ∙ ap not c.if-is_none.true))
+    (no-access-given c.args.tables.now.access (c.is_none.ensures ∙ ap not c.if-is_none.true))
     (none-given c.args.tables.now.time (c.is_none-then-is_none.ensures ∙ ap not c.if-is_none-2.true))
 
 pub returns : goal.returns

@@ -4,7 +4,7 @@ use Rattle.pam_paths.specs.Known.{may_answer}
 use Rattle.pam_policy.specs.declared.text.sentence.Sentence.{Sentence}
 use Rattle.pam_policy.specs.rules.Idle.{CanHappen}
 use Rattle.pam_policy.specs.rules.Site.{site_view}
-use Rattle.pam_policy.specs.rules.inner.Looking.{CanBeMet, SomeCanHappen, with_alone}
+use Rattle.pam_policy.specs.rules.inner.Looking.{CanBeMet, with_alone}
 use Rattle.pam_policy.specs.rules.inner.Marking.{part_view}
 use Rattle.pam_policy.specs.text.Sentences.{Never, Can, condition_view, sentence_view}
 use Rattle.pam_policy.proofs.RulesProofs.Idle.{can-met, iff-same, met-can, met-never, never-met}

@@ -1,4 +1,5 @@
 use Rattle.std.proofs.Common.{◌≡◌, ℕ, List, Option, Some, Result, refl, subst, sym, true}
+use Rattle.std.specs.Option.{option_copied}
 use Rattle.pam_codes.specs.Out.{Out}
 use Rattle.pam_render.proofs.PartsProofs.Printed.{printed-as, text-printed}
 use Rattle.pam_render.specs.parts.Findings.{IsCheckBy}
@@ -31,8 +32,9 @@ returns-in-Run g c =
 
 pub returns-in-Access : goal.returns-in-Access
 returns-in-Access g c =
-    written g.W.Write.contents _ _ _ (replies.Access c.in-Access.answer) _ c.in-Access.is refl
-    (text-printed g.W.Write.contents IsJson _ _ (spec.Access c.in-Access.answer) _ _ _ refl c.with_write_fault-in-Access.ensures c.write_access.ensures)
+    written g.W.Write.contents _ _ _ (replies.Access c.in-Access.access) _ c.in-Access.is refl
+    (text-printed g.W.Write.contents IsJson _ _ (spec.Access c.in-Access.access.answer (option_copied c.in-Access.access.table)) _ _ _ refl
+    c.with_write_fault-in-Access.ensures c.write_access.ensures)
 
 pub returns-in-Time : goal.returns-in-Time
 returns-in-Time g c =

@@ -1,4 +1,5 @@
 use Rattle.std.proofs.Common.{refl}
+use Rattle.std.specs.Option.{option_copied}
 use Rattle.pam_render.proofs.PartsProofs.Printed.{printed-as, reply-is, text-printed}
 use Rattle.pam_render.specs.parts.Findings.{IsCheckBy}
 use Rattle.pam_report.specs.Reply as spec
@@ -20,8 +21,9 @@ returns-in-Run g c =
 
 pub returns-in-Access : goal.returns-in-Access
 returns-in-Access g c =
-    reply-is g.W.Write.contents IsText _ _ _ (replies.Access c.in-Access.answer) _ c.in-Access.is
-    (text-printed g.W.Write.contents IsText _ _ (spec.Access c.in-Access.answer) _ _ _ refl c.with_write_fault-in-Access.ensures c.write_access.ensures)
+    reply-is g.W.Write.contents IsText _ _ _ (replies.Access c.in-Access.access) _ c.in-Access.is
+    (text-printed g.W.Write.contents IsText _ _ (spec.Access c.in-Access.access.answer (option_copied c.in-Access.access.table)) _ _ _ refl
+    c.with_write_fault-in-Access.ensures c.write_access.ensures)
 
 pub returns-in-Time : goal.returns-in-Time
 returns-in-Time g c =

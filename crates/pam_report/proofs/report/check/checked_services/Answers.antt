@@ -1,7 +1,7 @@
-use Rattle.std.proofs.Common.{◌∙◌, List, Option, ap, map, refl, ℕ}
+use Rattle.std.proofs.Common.{◌∙◌, Bool, List, Option, ap, map, refl, ℕ}
 use Rattle.pam_findings.specs.misspelled.Findings.{misspelled_at}
 use Rattle.pam_report.proofs.CheckAnswers.{check-of}
-use Rattle.pam_report.specs.Inputs.{there_given}
+use Rattle.pam_report.specs.Inputs.{outside_given, there_given}
 use Rattle.pam_report.proofs.SilentChecks.{silent-check}
 use Rattle.pam_report.proofs.report.check.checked_services.Goals as goal
 
@@ -18,17 +18,23 @@ returns-clause-answer c =
       are_services = reported.are_services;
       same_level = refl;
       same_accept = c.accept_name.ensures;
-      all = c.in_ok-report.report.found;
+      plain = reported.plain;
+      ways = reported.ways;
       report = reported.is_report;
+      all = c.in_ok-report.report.found;
+      links = reported.links;
+      told_ways = reported.told_ways;
       same_table_paths = c.table_paths-paths.ensures;
       all_tables = from.tables;
       table_report = from.table_report;
       not_accepted = listed.found;
       misspelled = c.in-Ok.ensures
-          ∙ ap (λ (there : Option (List (List ℕ))). map (misspelled_at c.args.files.now there) c.deref.result.now) c.there.ensures
-          ∙ ap (map (misspelled_at c.args.files.now (there_given c.args.inputs.now))) c.deref.ensures.value;
+          ∙ ap (λ (there : Option (List (List ℕ))). map (misspelled_at c.args.files.now there c.outside.result.now) c.deref.result.now) c.there.ensures
+          ∙ ap (λ (outside : List Bool). map (misspelled_at c.args.files.now (there_given c.args.inputs.now) outside) c.deref.result.now) c.outside.ensures
+          ∙ ap (map (misspelled_at c.args.files.now (there_given c.args.inputs.now) (outside_given c.args.inputs.now))) c.deref.ensures.value;
       tables_not_accepted = listed.tables_found;
       unused = listed.unused;
-      silence = silent-check c.a_silent_host_is_sound.ensures c.args.files.now _ c.args.asked.services.now reported.facts _ c.in_ok-report.report.found
-          c.in_ok-report.report.ways_in.items reported.is_report c.in_ok-report.report.services reported.are_services _;
+      silence = silent-check c.a_silent_host_is_sound.ensures c.links_are_notes.ensures c.args.files.now _ c.args.asked.services.now reported.facts _
+          reported.plain reported.ways reported.is_report _ c.in_ok-report.report.found reported.links
+          c.in_ok-report.report.services reported.are_services _;
     }

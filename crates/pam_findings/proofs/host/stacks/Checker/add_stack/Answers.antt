@@ -22,7 +22,13 @@ returns c =
     let noted = subst (λ (l : List (Option Met)). Notes (λ file. Member file (files_read c.form.result (length l) reached)) c.args.service
     c.args.kind
     l c.note_read.new.readers) c.deref_mut.ensures.value c.in_ok-note_read.ensures in
-    let at : Stacked = record { service = c.args.service; kind = c.args.kind; home = c.copied.result } in
+    let at : Stacked = record {
+      service = c.args.service;
+      kind = c.args.kind;
+      home = c.copied.result;
+      is_only_included = c.is_only_included.result;
+      is_greeter = c.is_greeter.result;
+    } in
     let looks = c.in_ok-told.ensures c.in_ok-survey.ensures in
     let is_home : c.copied.result ≡ slice_get (surveyed rules c.args.name.now c.args.kind).reached 0 =
     c.copied.ensures ∙ c.first.ensures.value ∙ ap (λ (l : List ℕ). slice_get l 0)

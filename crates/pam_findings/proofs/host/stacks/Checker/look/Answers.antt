@@ -53,5 +53,5 @@ returns c is =
     c.push_walk.new.spots.items second spots asked more
     (walk-seen c.args.survey.faults.items c.deref.result.now c.args.spots.now.items c.push_walk.new.spots.items c.requires.none c.deref.ensures.value
     c.in_ok-push_walk.ensures)
-    c.in_ok-push_modules.ensures told at.home c.requires.home judged)
+    c.in_ok-push_modules.ensures told at.home at.is_only_included at.is_greeter c.requires.home c.requires.included c.requires.greeter judged)
     (c.judge.ensures rules name stack)

@@ -1,4 +1,4 @@
-use Rattle.std.proofs.Common.{List, false, map, subst}
+use Rattle.std.proofs.Common.{List, false, subst}
 use Rattle.pam_paths.specs.Known.{may_answer}
 use Rattle.pam_policy.specs.declared.search.query.Query.{Query}
 use Rattle.pam_policy.specs.declared.search.query.Query.TheVariants.{Before}

@@ -1,0 +1,10 @@
+use Rattle.std.proofs.Common.{◌∙◌, ap}
+use Rattle.std.specs.List.{list_any}
+use Rattle.std.specs.Str.{bytes_eq}
+use Rattle.pam_findings.proofs.HostProofs.Listed.{any-now}
+use Rattle.pam_findings.proofs.host.unasked.asks_no_account.Goals as goal
+
+pub returns : goal.returns
+returns c =
+    c.is_among.ensures ∙ any-now c.args.service.now c.services_without_account.result.now
+    ∙ ap (list_any (bytes_eq c.args.service.now)) c.services_without_account.ensures
