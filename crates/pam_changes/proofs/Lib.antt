@@ -5,7 +5,6 @@ pub mod Merging
 pub mod Ordered
 pub mod PairsShown
 pub mod Rising
-pub mod Sameness
 pub mod Showing
 pub mod Stacked
 pub mod Told

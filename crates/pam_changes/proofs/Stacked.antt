@@ -17,7 +17,7 @@ use Rattle.pam_conf.specs.declared.rule.Kind.{Kind}
 use Rattle.pam_changes.specs.Changes.{AreChanges, AreEqual, AreToldFirst, IsChange, IsOfPair, IsStack, fault_in, is_of_pair, kinds_asked, stacks_asked}
 use Rattle.pam_changes.specs.inner.Finding.{AddsPairs, HasItemsAt, IsFound, KeepsPairs, TellsNew, asked_of}
 use Rattle.pam_changes.specs.Pairs.{IsPair}
-use Rattle.pam_changes.specs.Same.{same_items}
+use Rattle.pam_compare.specs.Same.{same_items}
 use Rattle.pam_changes.specs.Services.{ServiceText, compared_names, compared_services, presence_in, service_text, services_of}
 use Rattle.pam_changes.specs.Sides.{SidesText}
 use Rattle.pam_changes.specs.declared.changes.HostChanges.{HostChanges}
@@ -27,7 +27,7 @@ use Rattle.pam_changes.specs.declared.stacks.ComparedStack.{ComparedStack}
 use Rattle.pam_changes.specs.declared.stacks.Found.{Found}
 use Rattle.pam_changes.specs.declared.stacks.StackChange.{StackChange}
 use Rattle.pam_changes.specs.declared.stacks.StackChange.TheVariants as changes
-use Rattle.pam_changes.proofs.Sameness.{same-self}
+use Rattle.pam_compare.proofs.SameItems.{same-self}
 use Rattle.pam_changes.proofs.Told.{none-is, some-is, told-more, told-nothing}
 
 -- THE STACK OF A SURVEY without a fault

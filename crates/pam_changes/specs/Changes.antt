@@ -11,7 +11,7 @@ use Rattle.pam_conf.specs.declared.rule.Kind.{Kind}
 use Rattle.pam_conf.specs.declared.rule.Kind.TheVariants.{Auth, Account, Password, Session}
 use Rattle.pam_changes.specs.Known.{AreThereAlike}
 use Rattle.pam_changes.specs.Pairs.{IsPair}
-use Rattle.pam_changes.specs.Same.{AreSame}
+use Rattle.pam_compare.specs.Same.{AreSame}
 use Rattle.pam_changes.specs.Services.{compared_names, compared_services, service_text}
 use Rattle.pam_changes.specs.Sides.{SidesText}
 use Rattle.pam_changes.specs.declared.changes.HostChanges.{HostChanges}

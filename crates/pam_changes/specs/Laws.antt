@@ -4,12 +4,12 @@ use Rattle.std.specs.Prelude.{◌≡◌, ◌⊎◌, ℕ, ◌≤◌, List, Option
 use Rattle.pam_conf.specs.Stack.{Items, IsNumbered, module_count}
 use Rattle.pam_conf.specs.declared.rule.Kind.{Kind}
 use Rattle.pam_dispatch.specs.Runs.{Assignment, answers_of}
-use Rattle.pam_dispatch.specs.Tree.{decided, runs_of_stack}
+use Rattle.pam_dispatch.specs.Tree.{runs_of_stack}
 use Rattle.pam_changes.specs.Asked.{AreModules, AreShownOnce, IsOneToOne, Rise}
 use Rattle.pam_changes.specs.Changes.{AreEqual}
 use Rattle.pam_changes.specs.Known.{alike_partners, known_codes}
 use Rattle.pam_changes.specs.Pairs.{IsPair}
-use Rattle.pam_changes.specs.Same.{AreSame}
+use Rattle.pam_compare.specs.Same.{AreSame}
 use Rattle.pam_changes.specs.Sides.{SideText, SidesText}
 use Rattle.pam_changes.specs.Steps.{asked_modules, asked_numbers}
 use Rattle.pam_changes.specs.declared.pair.Decisions.TheVariants.{Known}
@@ -17,11 +17,7 @@ use Rattle.pam_changes.specs.declared.pair.Shown.{Shown}
 use Rattle.pam_changes.specs.declared.pair.ShownChanges.{ShownChanges}
 use Rattle.pam_changes.specs.declared.pair.StackPair.{StackPair}
 
--- stacks with the same items decide alike, whatever their modules answer
-abbrev pub SameItemsDecideAlike : Type 0
-SameItemsDecideAlike = (one other : Items) → AreSame one other → (answers : Assignment) → decided one answers ≡ decided other answers
-
--- in one configuration, the same is known of their modules
+-- in one configuration, the same is known of the modules of stacks with the same items
 abbrev pub SameItemsAreKnownAlike : Type 0
 SameItemsAreKnownAlike =
     (sides : SidesText) (side : SideText) (kind : Kind) (one other : Items) → AreSame one other → (number : ℕ) →

@@ -5,7 +5,6 @@ pub mod Known
 pub mod Laws
 pub mod Modules
 pub mod Pairs
-pub mod Same
 pub mod Services
 pub mod Sides
 pub mod Steps

@@ -1,12 +1,10 @@
 //! Laws of the definitions that the contracts cite: each is the contract of an empty function.
 
 ghost use Rattle.pam_changes.specs.Laws.{AskedAreShownOnce, AskedOfPairIsShownOnce, EqualStacksAreKnownAlike, SameItemsAreKnownAlike};
-ghost use Rattle.pam_changes.specs.Laws.{SameItemsDecideAlike};
 
-/// Stacks with the same items decide alike, whatever their modules answer, and the same is known of their modules. So nothing
-/// changes where stacks are equal, and what a pair of stacks says holds for every stack with its items.
+/// Of the modules of stacks with the same items the same is known. Such stacks decide alike (`pam_compare::laws::same_items`), so
+/// nothing changes where stacks are equal, and what a pair of stacks says holds for every stack with its items.
 pub fn same_items()
-    ensures decide { SameItemsDecideAlike }
     ensures known { SameItemsAreKnownAlike }
     ensures equal { EqualStacksAreKnownAlike }
 {}

@@ -9,7 +9,6 @@ mod known;
 pub mod laws;
 mod modules;
 mod pair;
-mod same;
 mod services;
 mod sides;
 mod stacks;

@@ -14,9 +14,9 @@ ghost use Rattle.pam_conf.specs.declared.rule.Kind.{Kind as KindText};
 use crate::digest::digest_of;
 use crate::known::are_there_alike;
 use crate::pair::{BothStacks, StackPair};
-use crate::same::are_same;
 use crate::sides::{Side, Sides};
 use indexmap::IndexMap;
+use pam_compare::are_same_stacks;
 use pam_conf::laws::stack_is_sound_survey;
 use pam_conf::{ConfError, FaultKind, Kind, RuleFiles, Stack, Survey, is_sound, resolve};
 use std::alloc::{AllocError, Global};
@@ -185,7 +185,9 @@ impl Found {
 fn has_items(stacks: &BothStacks, pair: &StackPair) -> bool
     ensures { IsTrue result → HasItems stacks.now.kind stacks.now.old stacks.now.new pair.now }
 {
-    pair.kind == stacks.kind && are_same(&pair.old, &stacks.old) && are_same(&pair.new, &stacks.new)
+    pair.kind == stacks.kind
+        && are_same_stacks(&pair.old, &stacks.old)
+        && are_same_stacks(&pair.new, &stacks.new)
 }
 
 impl Comparer<'_, '_> {
@@ -210,7 +212,7 @@ impl Comparer<'_, '_> {
         ensures change { IfOk result (IsChange (sides_view self.now.sides.now) found.new.pairs.items stacks.kind (Ok stacks.old) (Ok stacks.new)) }
         ensures told { IfOk result (λ change. TellsNew found.old.pairs.items stacks.service change found.new.pairs.items) }
     {
-        if are_same(&stacks.old, &stacks.new) && are_there_alike(self.sides, &stacks.old) {
+        if are_same_stacks(&stacks.old, &stacks.new) && are_there_alike(self.sides, &stacks.old) {
             return Ok(StackChange::Same);
         }
         let position = self.position(found, stacks)?;

@@ -1,5 +1,6 @@
 pub mod Agreeing
 pub mod Ahead
+pub mod Alike
 pub mod Allowed
 pub mod Choosing
 pub mod Classes
@@ -22,6 +23,7 @@ pub mod Preferring
 pub mod Questions
 pub mod Ranges
 pub mod Reaching
+pub mod SameItems
 pub mod Sameness
 pub mod Standing
 pub mod Stepping

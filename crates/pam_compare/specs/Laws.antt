@@ -1,13 +1,16 @@
--- What the definitions of situations imply.
+-- What the definitions of situations, and of stacks with the same items, imply.
 use Rattle.std.specs.Prelude.{◌≡◌, ◌≢◌, ◌<◌, ℕ, List, Option, None}
 use Rattle.std.specs.List.{AllPairs}
+use Rattle.pam_conf.specs.Stack.{Items}
 use Rattle.pam_dispatch.specs.declared.flat_item.FlatItem.{FlatItem}
 use Rattle.pam_dispatch.specs.Flat.{runs_of}
 use Rattle.pam_dispatch.specs.Runs.{Assignment, Runs, asked_module}
+use Rattle.pam_dispatch.specs.Tree.{decided}
 use Rattle.pam_paths.specs.Listing.{Allowance}
 use Rattle.pam_compare.specs.declared.comparing.TheConstants.{MAX_SITUATIONS}
 use Rattle.pam_compare.specs.declared.held.HeldAnswer.{HeldAnswer}
 use Rattle.pam_compare.specs.Questions.{EndsAfter}
+use Rattle.pam_compare.specs.Same.{AreSame}
 use Rattle.pam_compare.specs.Situations.{HasMoreSituations}
 use Rattle.pam_compare.specs.Walks.{IsAfter, Order}
 
@@ -35,3 +38,7 @@ EachWalkEnds =
 -- at most a million situations are looked at
 abbrev pub MostSituations : Type 0
 MostSituations = MAX_SITUATIONS ≡ 1000000
+
+-- stacks with the same items decide alike, whatever their modules answer
+abbrev pub SameItemsDecideAlike : Type 0
+SameItemsDecideAlike = (one other : Items) → AreSame one other → (answers : Assignment) → decided one answers ≡ decided other answers

@@ -6,6 +6,7 @@ pub mod Laws
 pub mod Matching
 pub mod Names
 pub mod Questions
+pub mod Same
 pub mod Situations
 pub mod Usual
 pub mod Walks

@@ -1,6 +1,6 @@
 //! Laws of the definitions that the contracts cite: each is the contract of an empty function.
 
-ghost use Rattle.pam_compare.specs.Laws.{EachWalkEnds, HeldOnce, MostSituations, OneSituation};
+ghost use Rattle.pam_compare.specs.Laws.{EachWalkEnds, HeldOnce, MostSituations, OneSituation, SameItemsDecideAlike};
 
 /// Two stacks that ask no module have no more than one situation.
 pub fn one_situation()
@@ -20,4 +20,9 @@ pub fn each_walk_ends()
 /// `MAX_SITUATIONS` is a million.
 pub fn most_situations()
     ensures { MostSituations }
+{}
+
+/// Stacks with the same items decide alike, whatever their modules answer.
+pub fn same_items()
+    ensures { SameItemsDecideAlike }
 {}

@@ -1,9 +1,8 @@
-use Rattle.pam_changes.proofs.Alike.{decide-alike, equal-alike, known-alike}
+use Rattle.pam_changes.proofs.Alike.{equal-alike, known-alike}
 use Rattle.pam_changes.proofs.laws.same_items.Goals as goal
 
 pub returns : goal.returns
 returns c = record {
-  decide = decide-alike;
   known = known-alike;
   equal = equal-alike;
 }

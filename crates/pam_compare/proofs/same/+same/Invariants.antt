@@ -1,7 +1,7 @@
 use Rattle.std.proofs.Common.{◌≡◌, drop}
 use Rattle.pam_conf.specs.ItemsOf.{items_of}
-use Rattle.pam_changes.specs.Same.{same_items}
-use Rattle.pam_changes.proofs.same.+same.Given as goal
+use Rattle.pam_compare.specs.Same.{same_items}
+use Rattle.pam_compare.proofs.same.+same.Given as goal
 
 -- the items that are left
 abbrev pub invariant-are_same_lists-loop-index : goal.invariant-are_same_lists-loop-index

@@ -14,7 +14,7 @@ use Rattle.pam_conf.specs.Stack.{End, Items, ModuleText, SubList, ThenModule, Th
 use Rattle.pam_conf.specs.declared.stack.Item.{Item}
 use Rattle.pam_conf.specs.declared.stack.Item.TheVariants.{Module as ModuleItem, Sub as SubItem}
 use Rattle.pam_conf.specs.declared.stack.Module.{Module}
-use Rattle.pam_changes.specs.Same.{same_items, same_module}
+use Rattle.pam_compare.specs.Same.{same_items, same_module}
 
 and-true : (b : Bool) → b ≡ (b && true)
 and-true true = refl

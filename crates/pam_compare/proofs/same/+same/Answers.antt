@@ -1,9 +1,9 @@
 use Rattle.std.proofs.Common.{◌∙◌, ap}
 use Rattle.pam_conf.specs.ItemsOf.{items_of}
 use Rattle.pam_conf.specs.Stack.{Items, SubList}
-use Rattle.pam_changes.specs.Same.{same_items}
-use Rattle.pam_changes.proofs.Sameness.{both-modules, both-subs, module-and-sub, other-length, sub-and-module}
-use Rattle.pam_changes.proofs.same.+same.Goals as goal
+use Rattle.pam_compare.specs.Same.{same_items}
+use Rattle.pam_compare.proofs.SameItems.{both-modules, both-subs, module-and-sub, other-length, sub-and-module}
+use Rattle.pam_compare.proofs.same.+same.Goals as goal
 
 pub are_same_items-returns-in-Module-other : goal.are_same_items-returns-in-Module-other
 are_same_items-returns-in-Module-other t c =
