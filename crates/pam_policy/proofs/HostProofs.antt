@@ -1,7 +1,11 @@
 pub mod Among
+pub mod Answered
 pub mod Classes
 pub mod Deciding
+pub mod Found
+pub mod Gathered
 pub mod Idle
 pub mod Known
 pub mod Places
 pub mod Silence
+pub mod Told

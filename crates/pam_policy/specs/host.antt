@@ -1,7 +1,11 @@
+pub mod Answers
 pub mod Findings
+pub mod HostStacks
 pub mod Idle
 pub mod Laws
 pub mod Places
 pub mod Reports
+pub mod Sources
 pub mod Stacks
+pub mod Told
 pub mod inner

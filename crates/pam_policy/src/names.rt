@@ -15,5 +15,6 @@ mod words;
 
 pub use calls::calls_in;
 pub use host::{Call, Host};
+pub(crate) use services::each_of;
 pub use word::{Argument, Misnamed, Word};
 pub use words::misnamed;
