@@ -115,15 +115,16 @@ complete -c pamcheck -n __pamcheck_no_command -s V -l version -d 'Print version'
 complete -c pamcheck -n '__pamcheck_at 1 1 help' -a '$__pamcheck_commands'
 
 # Made by completions/make, up to the next mark: do not edit.
-set -g __pamcheck_commands check compare show decide paths outcomes graph access time explain facts version help
+set -g __pamcheck_commands check compare policy show decide paths outcomes graph access time explain facts version help
 set -g __pamcheck_codes success open_err symbol_err service_err system_err buf_err perm_denied auth_err cred_insufficient \
     authinfo_unavail user_unknown maxtries new_authtok_reqd acct_expired session_err cred_unavail \
     cred_expired cred_err no_module_data conv_err authtok_err authtok_recover_err authtok_lock_busy \
     authtok_disable_aging try_again ignore abort authtok_expired module_unknown bad_item conv_again
 set -g __pamcheck_numbers E1 E2 E3 E4 E5 E6 E7 E8 E9 E10 E11 E12 E13 E14 E15 E16 E17 E18 E19 DE1 TE1 TE2 TE3 TE4 TE5 TE6 TE7 \
-    TE8 TE9 TE10 TE11 TE12 TE13 TE14 TE15 TE16 C1 C2 C3 C4 M1 M2 M4 U1 U2 U3 U4 U5 U6 U7 U8 U9 U10 U11 \
-    U12 U13 U14 U15 U16 U17 U18 U19 U20 V1 V2 L1 L2 L3 L4 L5 L6 L7 L8 L9 L10 A1 A2 A3 A4 A5 A6 A7 T1 T2 \
-    T3 T4 S1 S2 S3 S4 S5 S6 S7 S8 S9 S10 S11 S12 S13 S14 S15 S16 S17 S18 S19 S22 S23 S25 S26 S27
+    TE8 TE9 TE10 TE11 TE12 TE13 TE14 TE15 TE16 TE17 TE18 TE19 TE20 TE21 TE22 TE23 TE24 C1 C2 C3 C4 M1 M2 \
+    M4 U1 U2 U3 U4 U5 U6 U7 U8 U9 U10 U11 U12 U13 U14 U15 U16 U17 U18 U19 U20 V1 V2 L1 L2 L3 L4 L5 L6 L7 \
+    L8 L9 L10 A1 A2 A3 A4 A5 A6 A7 T1 T2 T3 T4 S1 S2 S3 S4 S5 S6 S7 S8 S9 S10 S11 S12 S13 S14 S15 S16 \
+    S17 S18 S19 S22 S23 S25 S26 S27 P1 P2 P3 P4 P5 P6 P7
 # The options without a value: those of each command, and those of one.
 set -g __pamcheck_flags --json 'compare --conf' 'compare --root'
 
@@ -131,6 +132,8 @@ complete -c pamcheck -n '__pamcheck_no_command' -a check \
     -d 'Checks all services for faults, and for stacks that let nobody or anybody in'
 complete -c pamcheck -n '__pamcheck_no_command' -a compare \
     -d 'Compares what two configurations decide'
+complete -c pamcheck -n '__pamcheck_no_command' -a policy \
+    -d 'Proves the rules of policies, or shows the run that breaks them'
 complete -c pamcheck -n '__pamcheck_no_command' -a show -d 'Shows the modules of a stack'
 complete -c pamcheck -n '__pamcheck_no_command' -a decide -d 'Runs a stack with given return codes'
 complete -c pamcheck -n '__pamcheck_no_command' -a paths -d 'Lists the paths through a stack'
@@ -151,6 +154,7 @@ complete -c pamcheck -n '__pamcheck_at 1 1 compare' -F -d 'Old'
 complete -c pamcheck -n '__pamcheck_at 2 2 compare' -F -d 'New'
 complete -c pamcheck -n '__pamcheck_at 3 3 compare' -a '(__pamcheck_services)' -d 'Service'
 complete -c pamcheck -n '__pamcheck_at 4 4 compare' -a 'auth account password session' -d 'Kind'
+complete -c pamcheck -n '__pamcheck_at 1 999 policy' -F -d 'Policy'
 complete -c pamcheck -n '__pamcheck_at 1 1 show decide paths outcomes graph access time' -a '(__pamcheck_services)' \
     -d 'Service'
 complete -c pamcheck -n '__pamcheck_at 2 2 show decide paths outcomes graph' -a 'auth account password session' \
@@ -161,39 +165,55 @@ complete -c pamcheck -n '__pamcheck_at 2 999 access' -a 'fieldsep= listsep= node
 complete -c pamcheck -n '__pamcheck_at 1 1 explain' -a '$__pamcheck_numbers' -d 'Number'
 
 # The options, each after the commands that have it.
-complete -c pamcheck -n '__pamcheck_in check show decide paths outcomes graph' -l dir -x -a '(__fish_complete_directories)' \
+complete -c pamcheck -n '__pamcheck_in check policy show decide paths outcomes graph' -l dir -x -a '(__fish_complete_directories)' \
     -d 'The folder with a file for each service'
-complete -c pamcheck -n '__pamcheck_in check show decide paths outcomes graph' -l vendor-dir -x -a '(__fish_complete_directories)' \
+complete -c pamcheck -n '__pamcheck_in check policy show decide paths outcomes graph' -l vendor-dir -x -a '(__fish_complete_directories)' \
     -d 'The folder for services that --dir lacks'
-complete -c pamcheck -n '__pamcheck_in check show decide paths outcomes graph' -l conf -r -F \
+complete -c pamcheck -n '__pamcheck_in check policy show decide paths outcomes graph' -l conf -r -F \
     -d 'The file for all services'
-complete -c pamcheck -n '__pamcheck_in check show decide paths outcomes graph' -l root -x -a '(__fish_complete_directories)' \
+complete -c pamcheck -n '__pamcheck_in check policy show decide paths outcomes graph' -l root -x -a '(__fish_complete_directories)' \
     -d 'The root folder of a system'
-complete -c pamcheck -n '__pamcheck_in check show decide paths outcomes graph' -l with -x -a '(__pamcheck_candidates)' \
+complete -c pamcheck -n '__pamcheck_in check policy show decide paths outcomes graph' -l with -x -a '(__pamcheck_candidates)' \
     -d 'A file to read in place of the file NAME of the folder; may be repeated'
-complete -c pamcheck -n '__pamcheck_in check compare paths outcomes graph' -l modules -x -a '(__fish_complete_directories)' \
+complete -c pamcheck -n '__pamcheck_in check compare policy paths outcomes graph' -l modules -x -a '(__fish_complete_directories)' \
     -d 'A folder of modules, in which each module is looked for; may be repeated'
 complete -c pamcheck -n '__pamcheck_in check' -l access -r -F \
     -d 'An access table of pam_access.so, in place of those of the root; may be repeated'
 complete -c pamcheck -n '__pamcheck_in check' -l time -r -F \
     -d 'The time table of pam_time.so, in place of that of the root'
-complete -c pamcheck -n '__pamcheck_in check paths outcomes graph access' -l group -r -F \
+complete -c pamcheck -n '__pamcheck_in check policy paths outcomes graph access' -l group -r -F \
     -d 'The group file'
-complete -c pamcheck -n '__pamcheck_in check compare outcomes graph' -l facts -r -F \
+complete -c pamcheck -n '__pamcheck_in check compare policy outcomes graph' -l facts -r -F \
     -d 'What is known of more modules, a line for each; see pamcheck facts'
 complete -c pamcheck -n '__pamcheck_in check' -l accept -r -F \
     -d 'The findings that are meant to be, a line for each, as S2 SERVICE auth'
-complete -c pamcheck -n '__pamcheck_in check' -l fail-on -x -a 'error warning note' \
+complete -c pamcheck -n '__pamcheck_in check policy' -l fail-on -x -a 'error warning note' \
     -d 'error, warning or note: the least level that fails; warning if left out'
-complete -c pamcheck -n '__pamcheck_in check compare show decide paths outcomes access time' -l json \
+complete -c pamcheck -n '__pamcheck_in check compare policy show decide paths outcomes access time' -l json \
     -d 'Answer in JSON Lines'
 complete -c pamcheck -n '__pamcheck_in compare' -l conf -d 'OLD and NEW are files for all services'
 complete -c pamcheck -n '__pamcheck_in compare' -l root \
     -d 'OLD and NEW are root folders of systems'
-complete -c pamcheck -n '__pamcheck_in compare paths outcomes graph' -l returns -r -F \
+complete -c pamcheck -n '__pamcheck_in compare policy paths outcomes graph' -l returns -r -F \
     -d 'The codes that other modules can return'
-complete -c pamcheck -n '__pamcheck_in compare' -l set -x -a '(__pamcheck_settings)' \
-    -d 'The codes that the modules of this name can return, in both configurations; may be repeated'
+complete -c pamcheck -n '__pamcheck_in compare policy' -l set -x -a '(__pamcheck_settings)' \
+    -d 'The codes that all modules of this name can return; may be repeated'
+complete -c pamcheck -n '__pamcheck_in policy paths outcomes graph' -l user -x -a '(__fish_complete_users)' \
+    -d 'The user'
+complete -c pamcheck -n '__pamcheck_in policy paths outcomes graph access' -l rhost -x -a '(__fish_print_hostnames)' \
+    -d 'The remote host'
+complete -c pamcheck -n '__pamcheck_in policy paths outcomes graph access time' -l tty -x \
+    -d 'The terminal'
+complete -c pamcheck -n '__pamcheck_in policy paths outcomes graph' -l access -r -F \
+    -d 'An access table of pam_access.so; needs --user; may be repeated'
+complete -c pamcheck -n '__pamcheck_in policy paths outcomes graph' -l time -r -F \
+    -d 'The time table of pam_time.so; needs --user and a moment'
+complete -c pamcheck -n '__pamcheck_in policy paths outcomes graph time' -l at -x \
+    -d 'The moment, as 2024-05-06T10:00'
+complete -c pamcheck -n '__pamcheck_in policy paths outcomes graph time' -l at-unix -x \
+    -d 'The moment, in seconds since 1970'
+complete -c pamcheck -n '__pamcheck_in policy paths outcomes graph time' -l zone -x \
+    -d 'The POSIX zone rule of --at-unix; UTC0 if left out'
 complete -c pamcheck -n '__pamcheck_in show' -l as -x -a 'linux-pam-1.5 linux-pam-1.7' \
     -d 'linux-pam-1.5 or linux-pam-1.7: the rules of the file of the service, as this release reads them'
 complete -c pamcheck -n '__pamcheck_in paths' -l limit -x \
@@ -204,24 +224,8 @@ complete -c pamcheck -n '__pamcheck_in paths' -l before -x \
 complete -c pamcheck -n '__pamcheck_in paths' -l decision -x -a '(__pamcheck_set)' \
     -d 'Lists the paths that end in one of these codes'
 complete -c pamcheck -n '__pamcheck_in paths' -l asks -x -d 'Lists the paths that ask module N'
-complete -c pamcheck -n '__pamcheck_in paths outcomes graph' -l user -x -a '(__fish_complete_users)' \
-    -d 'The user'
-complete -c pamcheck -n '__pamcheck_in paths outcomes graph access' -l rhost -x -a '(__fish_print_hostnames)' \
-    -d 'The remote host'
-complete -c pamcheck -n '__pamcheck_in paths outcomes graph access time' -l tty -x \
-    -d 'The terminal'
-complete -c pamcheck -n '__pamcheck_in paths outcomes graph' -l access -r -F \
-    -d 'An access table of pam_access.so; needs --user; may be repeated'
-complete -c pamcheck -n '__pamcheck_in paths outcomes graph' -l time -r -F \
-    -d 'The time table of pam_time.so; needs --user and a moment'
 complete -c pamcheck -n '__pamcheck_in paths outcomes graph' -l set -x -a '(__pamcheck_settings)' \
     -d 'The codes that a module can return, named by its name, its number or FILE:LINE; may be repeated'
-complete -c pamcheck -n '__pamcheck_in paths outcomes graph time' -l at -x \
-    -d 'The moment, as 2024-05-06T10:00'
-complete -c pamcheck -n '__pamcheck_in paths outcomes graph time' -l at-unix -x \
-    -d 'The moment, in seconds since 1970'
-complete -c pamcheck -n '__pamcheck_in paths outcomes graph time' -l zone -x \
-    -d 'The POSIX zone rule of --at-unix; UTC0 if left out'
 complete -c pamcheck -n '__pamcheck_in outcomes graph' -l answers -x -a 'any possible' \
     -d 'any or possible: what modules can return of which nothing else tells; possible if left out'
 complete -c pamcheck -n '__pamcheck_in graph' -l format -x -a 'dot mermaid svg' \

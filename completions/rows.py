@@ -8,10 +8,10 @@ from collections import namedtuple
 from pathlib import Path
 
 # The forms of arguments that are words, and those that are options with a value.
-WORDS = {"Positional", "OptionalPositional", "Repeated"}
+WORDS = {"Positional", "OptionalPositional", "Repeated", "RequiredWords"}
 OPTIONS = {"Optional", "RepeatedOption", "Required", "RequiredRepeated", "Number"}
 FLAG = "Flag"
-REPEATED = {"Repeated", "RepeatedOption", "RequiredRepeated"}
+REPEATED = {"Repeated", "RequiredWords", "RepeatedOption", "RequiredRepeated"}
 
 Command = namedtuple("Command", "name about rows")
 Words = namedtuple("Words", "commands codes numbers")

@@ -5,7 +5,7 @@ use Rattle.std.specs.Option.{option_copied}
 use Rattle.std.specs.Global.{Global}
 use Rattle.clap.specs.Words.{Text}
 use Rattle.pam_text.specs.Members.{Member}
-use Rattle.pam_report.specs.Inputs.{fits_task, there_given}
+use Rattle.pam_report.specs.Inputs.{fits_task, policies_given, there_given}
 use Rattle.pam_report.specs.declared.inputs.CheckInputs.{CheckInputs}
 use Rattle.pam_report.specs.declared.inputs.SideInputs.{SideInputs}
 use Rattle.pam_report.specs.declared.inputs.InputError.{InputError}
@@ -20,7 +20,7 @@ use Rattle.pam_words.specs.declared.wanted.ConfSource.TheVariants.{Root}
 use Rattle.pam_words.specs.declared.wanted.KnowledgeSource.{KnowledgeSource}
 use Rattle.pam_words.specs.declared.wanted.TableNames.{TableNames}
 use Rattle.pam_words.specs.declared.wanted.Task.{Task}
-use Rattle.pam_words.specs.declared.wanted.Task.TheVariants.{Check, Compare, Show, Decide, Access, Time, Paths, Outcomes, Graph}
+use Rattle.pam_words.specs.declared.wanted.Task.TheVariants.{Check, Compare, Show, Decide, Access, Time, Paths, Outcomes, Graph, Policy}
 use Rattle.pam_words.specs.declared.wanted.CheckFiles.{CheckFiles}
 use Rattle.pam_cli.specs.Links.{AreLinks}
 use Rattle.pam_cli.specs.AccessTables.{AreAccess, AreContents}
@@ -90,7 +90,7 @@ is_user (c ∷ cs) = true
 abbrev pub has_user : KnowledgeSource → Bool
 has_user named = is_user named.login.user.now
 
--- `paths`, `outcomes` and `graph` look up a login if its user is given, and its moment if that is given too
+-- `paths`, `outcomes`, `graph` and `policy` look up a login if its user is given, and its moment if that is given too
 abbrev pub AreKnownTables : Told → ConfSource → KnowledgeSource → TableFiles → Type 0
 AreKnownTables told source named tables =
     AreTables told (has_user named) (has_user named && is_some named.moment) source named.tables tables
@@ -122,11 +122,16 @@ HasSides told old new named (inputs.Sides old_side new_side facts returns) =
     × IsFile told (option_copied named.facts) facts × IsFile told (option_copied named.returns) returns
 HasSides told old new named given = ⊤
 
--- a configuration, the tables, the facts file and the returns file that give the answers of its modules, and whether it is known which
--- modules are there
-abbrev pub HasKnowledge : Told → List (Text × Text) → ConfSource → KnowledgeSource → Inputs → Type 0
-HasKnowledge told candidates source named given =
+-- the contents of these policies, in turn
+abbrev pub HasPolicies : Told → List Text → Inputs → Type 0
+HasPolicies told names given = AreContents told names (policies_given given)
+
+-- a configuration, the tables, the facts file and the returns file that give the answers of its modules, whether it is known which
+-- modules are there, and the policies of these names
+abbrev pub HasKnowledge : Told → List (Text × Text) → ConfSource → KnowledgeSource → List Text → Inputs → Type 0
+HasKnowledge told candidates source named policies given =
     HasFiles told candidates source given × HasKnownTables told source named given × HasModules source named.modules.items (there_given given)
+    × HasPolicies told policies given
 
 -- the tables of `access` and its group file
 abbrev pub IsAccess : Told → List Text → Option Text → Inputs → Type 0
@@ -154,9 +159,11 @@ HasSource told candidates (Decide source kind answered) given = HasFiles told ca
 HasSource told candidates (Access tables groups login arguments) given =
     IsAccess told (map (λ s. s.now) tables.items) (option_copied groups) given
 HasSource told candidates (Time table login moment) given = IsTime told table.now given
-HasSource told candidates (Paths source kind limit part filter knowledge) given = HasKnowledge told candidates source knowledge given
-HasSource told candidates (Outcomes source kind knowledge) given = HasKnowledge told candidates source knowledge given
-HasSource told candidates (Graph source kind format knowledge) given = HasKnowledge told candidates source knowledge given
+HasSource told candidates (Paths source kind limit part filter knowledge) given = HasKnowledge told candidates source knowledge [] given
+HasSource told candidates (Outcomes source kind knowledge) given = HasKnowledge told candidates source knowledge [] given
+HasSource told candidates (Graph source kind format knowledge) given = HasKnowledge told candidates source knowledge [] given
+HasSource told candidates (Policy source policies fail_on knowledge) given =
+    HasKnowledge told candidates source knowledge (map (λ s. s.now) policies.items) given
 HasSource told candidates task given = ⊤
 
 -- THE INPUTS of a task with these candidates: those of exactly the files that are named
@@ -179,6 +186,10 @@ abbrev pub IsOfKnowledge : ConfSource → KnowledgeSource → List ℕ → Type 
 IsOfKnowledge source named name =
     IsInSource source name ⊎ Member name (map (λ folder. folder.now) named.modules.items) ⊎ IsOfTables named.tables name
     ⊎ IsNamed (option_copied (facts_named named.answers)) name ⊎ IsNamed (option_copied named.returns) name
+
+-- one of these, or one of the policies
+abbrev pub IsOfPolicies : ConfSource → KnowledgeSource → List Text → List ℕ → Type 0
+IsOfPolicies source named policies name = IsOfKnowledge source named name ⊎ Member name policies
 
 -- the facts file or the accept file, one of the tables, or one of the folders of modules
 abbrev pub IsOfCheck : CheckFiles → List ℕ → Type 0
@@ -203,6 +214,7 @@ IsOfTask (Time table login moment) name = name ≡ table.now
 IsOfTask (Paths source kind limit part filter knowledge) name = IsOfKnowledge source knowledge name
 IsOfTask (Outcomes source kind knowledge) name = IsOfKnowledge source knowledge name
 IsOfTask (Graph source kind format knowledge) name = IsOfKnowledge source knowledge name
+IsOfTask (Policy source policies fail_on knowledge) name = IsOfPolicies source knowledge (map (λ s. s.now) policies.items) name
 IsOfTask task name = ⊥
 
 -- THE INPUTS of a task, or why there are none

@@ -123,7 +123,9 @@ fn report<W: Write, V: Write>(
         Err(fault) => {
             let line = refusal_text(alloc, &fault, request, inputs);
             match fault {
-                Fault::NoSuchService | Fault::UnusedCandidate => say_names(line, err),
+                Fault::NoSuchService | Fault::UnusedCandidate | Fault::Policy(_) => {
+                    say_names(line, err);
+                }
                 _ => say(line, err),
             }
             fault_status(&fault)

@@ -3,7 +3,7 @@
 ghost use Rattle.std.specs.Prelude.{◌≡◌, ◌⊎◌, ◌&&◌, IfErr, IfOk, MatchResult, is_some, map};
 ghost use Rattle.std.specs.Option.{option_copied};
 ghost use Rattle.pam_cli.specs.Reading.{IsNamed, has_user, IsReading, IsSide};
-ghost use Rattle.pam_cli.specs.inner.Reading.{IsAccessReading, IsCheckReading, IsGivenReading, IsKnowledgeReading, IsKnownReading};
+ghost use Rattle.pam_cli.specs.inner.Reading.{IsAccessReading, IsCheckReading, IsGivenReading, IsKnowledgeReading, IsKnownReading, IsPolicyReading};
 ghost use Rattle.pam_cli.specs.inner.Reading.{IsCompareReading, IsOfSide, IsRightFile};
 ghost use Rattle.pam_cli.specs.Sources.{IsUnread};
 ghost use Rattle.pam_words.specs.Wanted.{candidate_view, facts_named};
@@ -193,7 +193,7 @@ fn possible_files<S: System>(
 }
 
 /// Looks for the modules of a configuration, and reads the tables of its system or those that are named, and the facts file and the
-/// returns file that are named. Where any code is possible, no facts file is read.
+/// returns file that are named. Where any code is possible, no facts file is read. No policies are read.
 fn known_inputs<S: System>(
     system: &S,
     alloc: Global,
@@ -211,6 +211,7 @@ fn known_inputs<S: System>(
         tables,
         facts: others.0,
         returns: others.1,
+        policies: Texts::new(alloc),
     })
 }
 
@@ -227,6 +228,26 @@ fn knowledge_inputs<S: System>(
     let files = source_files(system, alloc, source, candidates)?.files;
     let given = known_inputs(system, alloc, source, named, &files)?;
     Ok(Inputs::Paths { files, given })
+}
+
+/// Reads a configuration, then what is known of the answers of its modules, and then the policies in turn.
+fn policy_inputs<S: System>(
+    system: &S,
+    alloc: Global,
+    source: ConfSource<'_>,
+    candidates: &[Candidate<'_>],
+    named: &KnowledgeSource<'_>,
+    policies: &[&str],
+) -> Result<Inputs, InputError>
+    ensures { IsPolicyReading (S.told system.now) (map candidate_view candidates.now) source.entry named.now policies.now result }
+{
+    let files = source_files(system, alloc, source, candidates)?.files;
+    let given = known_inputs(system, alloc, source, named, &files)?;
+    let policies = named_access(system, alloc, policies)?.contents;
+    Ok(Inputs::Paths {
+        files,
+        given: KnowledgeInputs { policies, ..given },
+    })
 }
 
 /// Reads the files of a request: the configuration, the folders of modules, the group file, the access tables, the time table, and then
@@ -271,6 +292,12 @@ pub(crate) fn inputs_of<S: System>(
             knowledge,
             ..
         } => knowledge_inputs(system, alloc, *source, candidates, knowledge),
+        Task::Policy {
+            source,
+            policies,
+            knowledge,
+            ..
+        } => policy_inputs(system, alloc, *source, candidates, knowledge, policies),
         Task::Explain(_) | Task::Facts | Task::Version => Ok(Inputs::Nothing),
     }
 }

@@ -8,7 +8,9 @@ use Rattle.pam_explain.specs.Links.{of_links}
 use Rattle.pam_explain.specs.Modules.{of_modules}
 use Rattle.pam_explain.specs.Named.{of_named}
 use Rattle.pam_explain.specs.OldTables.{of_old_tables}
+use Rattle.pam_explain.specs.OwnFiles.{of_own_files}
 use Rattle.pam_explain.specs.Paths.{of_paths}
+use Rattle.pam_explain.specs.Policies.{of_policies}
 use Rattle.pam_explain.specs.Released.{of_released}
 use Rattle.pam_explain.specs.Rules.{of_rules}
 use Rattle.pam_explain.specs.Stacks.{of_stacks}
@@ -18,8 +20,8 @@ use Rattle.pam_explain.specs.Words.{of_words}
 -- in the order of the numbers
 unfoldable pub families : List (List Explanation)
 families =
-    of_rules ∷ of_stacks ∷ of_tables ∷ of_paths ∷ of_words ∷ of_named ∷ of_released ∷ of_old_tables ∷ of_hosts ∷ of_arguments ∷ of_modules ∷ of_links
-    ∷ []
+    of_rules ∷ of_stacks ∷ of_tables ∷ of_own_files ∷ of_paths ∷ of_words ∷ of_named ∷ of_released ∷ of_old_tables ∷ of_hosts ∷ of_arguments ∷ of_modules
+    ∷ of_links ∷ of_policies ∷ []
 
 -- the rows of families, one family after the other
 abbrev pub rows_of : List (List Explanation) → List Explanation

@@ -7,7 +7,9 @@ pub mod Links
 pub mod Modules
 pub mod Named
 pub mod OldTables
+pub mod OwnFiles
 pub mod Paths
+pub mod Policies
 pub mod Released
 pub mod Rules
 pub mod Shared

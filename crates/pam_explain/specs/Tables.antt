@@ -1,7 +1,7 @@
 -- Faults of tables.
 use Rattle.std.specs.Prelude.{List, [], ◌∷◌, ◌++◌, codes}
 use Rattle.pam_explain.specs.Explanation.{Explanation}
-use Rattle.pam_explain.specs.Shared.{fault_of_run, free_memory, own_accept_file, own_returns_file, restore_file}
+use Rattle.pam_explain.specs.Shared.{fault_of_run, free_memory, restore_file}
 use Rattle.pam_explain.specs.declared.explanation.Level.TheVariants.{Error, Note}
 
 -- LINES OF A TABLE
@@ -15,7 +15,8 @@ missing_field =
       meaning =
           codes "A line of a table has too few fields, or an empty one:\n"
           ++ codes "permission:users:origins in an access table, services;ttys;users;times in a\n"
-          ++ codes "time table, a module and its codes in a returns file.";
+          ++ codes "time table, a module and its codes in a returns file. Or a rule of a policy\n"
+          ++ codes "ends where a word is needed.";
       example =
           codes "# access.conf\n"
           ++ codes "-:ALL\n"
@@ -195,7 +196,8 @@ nul_byte =
       name = codes "NulByte";
       level = Error;
       meaning =
-          codes "A table has a NUL byte, so it is no text: it was damaged, or is no table.";
+          codes "A table or a policy has a NUL byte, so it is no text: it was damaged, or is\n"
+          ++ codes "something else.";
       example =
           codes "$ printf '+:ALL:ALL\\0\\n' >access.conf\n"
           ++ codes "$ pamcheck access login --access access.conf --user alice";
@@ -226,103 +228,21 @@ table_too_long =
       name = codes "TableTooLong";
       level = Error;
       meaning =
-          codes "A table has more than 1,048,576 bytes, and is not read.";
+          codes "A table or a policy has more than 1,048,576 bytes, and is not read.";
       example =
           codes "$ yes '# comment' | head -c 1048577 >access.conf\n"
           ++ codes "$ pamcheck access login --access access.conf --user alice";
       linux_pam =
           codes "the manual pages name no limit. This one is pamcheck's.";
       mending =
-          codes "shorten the table, for example by groups in place of users.";
+          codes "shorten the table, for example by groups in place of users; or\n"
+          ++ codes "write two policies.";
     }
 
 -- RETURNS FILES
-
-unfoldable pub bad_code : Explanation
-bad_code =
-    record {
-      number = codes "TE13";
-      name = codes "BadCode";
-      level = Error;
-      meaning =
-          codes "A line of a returns file has a word that is not the name of a return code.";
-      example =
-          codes "# login\n"
-          ++ codes "auth required pam_unix.so\n"
-          ++ codes "# returns\n"
-          ++ codes "pam_unix.so succes\n"
-          ++ codes "$ pamcheck paths login auth --dir . --returns returns";
-      linux_pam = own_returns_file;
-      mending =
-          codes "correct the name: success, auth_err and the other codes of pam(3),\n"
-          ++ codes "without the prefix PAM_.";
-    }
-
-unfoldable pub bad_module : Explanation
-bad_module =
-    record {
-      number = codes "TE14";
-      name = codes "BadModule";
-      level = Error;
-      meaning =
-          codes "A line of a returns file has a / in the name of a module. A line counts for a\n"
-          ++ codes "module of this name in any folder.";
-      example =
-          codes "# login\n"
-          ++ codes "auth required pam_unix.so\n"
-          ++ codes "# returns\n"
-          ++ codes "/lib/security/pam_unix.so success\n"
-          ++ codes "$ pamcheck paths login auth --dir . --returns returns";
-      linux_pam = own_returns_file;
-      mending =
-          codes "write the name of the file alone, as pam_unix.so.";
-    }
-
--- ACCEPT FILES AND FACTS FILES
-
-unfoldable pub bad_accept : Explanation
-bad_accept =
-    record {
-      number = codes "TE15";
-      name = codes "BadAccept";
-      level = Error;
-      meaning =
-          codes "A line of an accept file is not the number of a finding and then its place.";
-      example =
-          codes "# login\n"
-          ++ codes "auth required pam_unix.so\n"
-          ++ codes "$ mkdir m; echo login S2 > m/accept\n"
-          ++ codes "$ pamcheck check --dir . --accept m/accept";
-      linux_pam = own_accept_file;
-      mending =
-          codes "write L1 login:3 for a line, S2 login auth for a stack, and S7\n"
-          ++ codes "Login for a file as a whole.";
-    }
-
-unfoldable pub bad_fact : Explanation
-bad_fact =
-    record {
-      number = codes "TE16";
-      name = codes "BadFact";
-      level = Error;
-      meaning =
-          codes "A line of a facts file does not say what is known of a module.";
-      example =
-          codes "# login\n"
-          ++ codes "auth required pam_unix.so\n"
-          ++ codes "$ mkdir m; echo pam_own.so checks > m/facts\n"
-          ++ codes "$ pamcheck check --dir . --facts m/facts";
-      linux_pam =
-          codes "a facts file is pamcheck's own, and Linux-PAM does not read it.";
-      mending =
-          codes "write the name of a module without .so, arguments that its rules\n"
-          ++ codes "have, one of checks, ignores, passes and fails, and then kinds with their\n"
-          ++ codes "codes. The command facts prints such lines.";
-    }
 
 -- THE ROWS, in the order of their numbers
 abbrev pub of_tables : List Explanation
 of_tables =
     missing_field ∷ bad_permission ∷ netgroup ∷ user_at_host ∷ bad_mask ∷ bad_times ∷
-    two_wildcards ∷ bad_logic ∷ bad_group ∷ nul_byte ∷ memory ∷ table_too_long ∷ bad_code ∷
-    bad_module ∷ bad_accept ∷ bad_fact ∷ []
+    two_wildcards ∷ bad_logic ∷ bad_group ∷ nul_byte ∷ memory ∷ table_too_long ∷ []

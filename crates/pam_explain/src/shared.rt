@@ -23,6 +23,9 @@ pub(crate) const OWN_ACCEPT_FILE: &str =
 pub(crate) const OWN_RETURNS_FILE: &str =
     "a returns file is pamcheck's own, and Linux-PAM does not read it.";
 
+/// Of Linux-PAM, where a policy is wrong.
+pub(crate) const OWN_POLICY: &str = "a policy is pamcheck's own, and Linux-PAM does not read it.";
+
 /// Of Linux-PAM, where a control cannot be read.
 pub(crate) const CONTROL_FAILS: &str = concat!(
     "where 1.5.2 and 1.7.0 cannot read a control, each answer of the\n",

@@ -7,7 +7,7 @@ ghost use Rattle.pam_explain.specs.Tables as spec;
 ghost use Rattle.pam_explain.specs.Views.{explanation_view};
 
 use crate::explanation::{Explanation, Level};
-use crate::shared::{FAULT_OF_RUN, FREE_MEMORY, OWN_ACCEPT_FILE, OWN_RETURNS_FILE, RESTORE_FILE};
+use crate::shared::{FAULT_OF_RUN, FREE_MEMORY, RESTORE_FILE};
 
 #[tactic(auto, unfolding(crate::specs::Tables::missing_field))]
 fn missing_field() -> Explanation
@@ -20,7 +20,8 @@ fn missing_field() -> Explanation
         meaning: concat!(
             "A line of a table has too few fields, or an empty one:\n",
             "permission:users:origins in an access table, services;ttys;users;times in a\n",
-            "time table, a module and its codes in a returns file."
+            "time table, a module and its codes in a returns file. Or a rule of a policy\n",
+            "ends where a word is needed."
         ),
         example: concat!(
             "# access.conf\n",
@@ -229,7 +230,10 @@ fn nul_byte() -> Explanation
         number: "TE10",
         name: "NulByte",
         level: Level::Error,
-        meaning: "A table has a NUL byte, so it is no text: it was damaged, or is no table.",
+        meaning: concat!(
+            "A table or a policy has a NUL byte, so it is no text: it was damaged, or is\n",
+            "something else."
+        ),
         example: concat!(
             "$ printf '+:ALL:ALL\\0\\n' >access.conf\n",
             "$ pamcheck access login --access access.conf --user alice"
@@ -268,107 +272,15 @@ fn table_too_long() -> Explanation
         number: "TE12",
         name: "TableTooLong",
         level: Level::Error,
-        meaning: "A table has more than 1,048,576 bytes, and is not read.",
+        meaning: "A table or a policy has more than 1,048,576 bytes, and is not read.",
         example: concat!(
             "$ yes '# comment' | head -c 1048577 >access.conf\n",
             "$ pamcheck access login --access access.conf --user alice"
         ),
         linux_pam: "the manual pages name no limit. This one is pamcheck's.",
-        mending: "shorten the table, for example by groups in place of users.",
-    }
-}
-
-#[tactic(auto, unfolding(crate::specs::Tables::bad_code))]
-fn bad_code() -> Explanation
-    ensures { explanation_view result ≡ spec.bad_code }
-{
-    Explanation {
-        number: "TE13",
-        name: "BadCode",
-        level: Level::Error,
-        meaning: "A line of a returns file has a word that is not the name of a return code.",
-        example: concat!(
-            "# login\n",
-            "auth required pam_unix.so\n",
-            "# returns\n",
-            "pam_unix.so succes\n",
-            "$ pamcheck paths login auth --dir . --returns returns"
-        ),
-        linux_pam: OWN_RETURNS_FILE,
         mending: concat!(
-            "correct the name: success, auth_err and the other codes of pam(3),\n",
-            "without the prefix PAM_."
-        ),
-    }
-}
-
-#[tactic(auto, unfolding(crate::specs::Tables::bad_module))]
-fn bad_module() -> Explanation
-    ensures { explanation_view result ≡ spec.bad_module }
-{
-    Explanation {
-        number: "TE14",
-        name: "BadModule",
-        level: Level::Error,
-        meaning: concat!(
-            "A line of a returns file has a / in the name of a module. A line counts for a\n",
-            "module of this name in any folder."
-        ),
-        example: concat!(
-            "# login\n",
-            "auth required pam_unix.so\n",
-            "# returns\n",
-            "/lib/security/pam_unix.so success\n",
-            "$ pamcheck paths login auth --dir . --returns returns"
-        ),
-        linux_pam: OWN_RETURNS_FILE,
-        mending: "write the name of the file alone, as pam_unix.so.",
-    }
-}
-
-#[tactic(auto, unfolding(crate::specs::Tables::bad_accept))]
-fn bad_accept() -> Explanation
-    ensures { explanation_view result ≡ spec.bad_accept }
-{
-    Explanation {
-        number: "TE15",
-        name: "BadAccept",
-        level: Level::Error,
-        meaning: "A line of an accept file is not the number of a finding and then its place.",
-        example: concat!(
-            "# login\n",
-            "auth required pam_unix.so\n",
-            "$ mkdir m; echo login S2 > m/accept\n",
-            "$ pamcheck check --dir . --accept m/accept"
-        ),
-        linux_pam: OWN_ACCEPT_FILE,
-        mending: concat!(
-            "write L1 login:3 for a line, S2 login auth for a stack, and S7\n",
-            "Login for a file as a whole."
-        ),
-    }
-}
-
-#[tactic(auto, unfolding(crate::specs::Tables::bad_fact))]
-fn bad_fact() -> Explanation
-    ensures { explanation_view result ≡ spec.bad_fact }
-{
-    Explanation {
-        number: "TE16",
-        name: "BadFact",
-        level: Level::Error,
-        meaning: "A line of a facts file does not say what is known of a module.",
-        example: concat!(
-            "# login\n",
-            "auth required pam_unix.so\n",
-            "$ mkdir m; echo pam_own.so checks > m/facts\n",
-            "$ pamcheck check --dir . --facts m/facts"
-        ),
-        linux_pam: "a facts file is pamcheck's own, and Linux-PAM does not read it.",
-        mending: concat!(
-            "write the name of a module without .so, arguments that its rules\n",
-            "have, one of checks, ignores, passes and fails, and then kinds with their\n",
-            "codes. The command facts prints such lines."
+            "shorten the table, for example by groups in place of users; or\n",
+            "write two policies."
         ),
     }
 }
@@ -390,10 +302,6 @@ pub(crate) fn of_tables(row: usize) -> Option<Explanation>
         9 => nul_byte(),
         10 => memory(),
         11 => table_too_long(),
-        12 => bad_code(),
-        13 => bad_module(),
-        14 => bad_accept(),
-        15 => bad_fact(),
         _ => return None,
     })
 }

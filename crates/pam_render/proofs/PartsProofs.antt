@@ -2,4 +2,5 @@ pub mod ComparedLines
 pub mod FindingLines
 pub mod ItemLines
 pub mod PathLists
+pub mod PolicyLines
 pub mod Printed

@@ -1,2 +1,3 @@
 pub mod NamedWords
+pub mod PolicySentences
 pub mod ShownTexts

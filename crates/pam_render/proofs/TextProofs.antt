@@ -9,4 +9,5 @@ pub mod Leaving
 pub mod ListTexts
 pub mod OutcomeTexts
 pub mod PageTexts
+pub mod PolicyTexts
 pub mod ShowTexts

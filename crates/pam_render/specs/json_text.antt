@@ -4,6 +4,7 @@ pub mod Decide
 pub mod Header
 pub mod Outcomes
 pub mod Paths
+pub mod Policy
 pub mod Sentences
 pub mod Show
 pub mod Steps

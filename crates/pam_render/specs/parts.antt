@@ -9,6 +9,8 @@ pub mod FindingsView
 pub mod Items
 pub mod ItemsView
 pub mod Pages
+pub mod Policy
+pub mod PolicyView
 pub mod Prints
 pub mod Ways
 pub mod inner

@@ -1,6 +1,9 @@
 pub mod Faults
 pub mod Laws
 pub mod NamingView
+pub mod Phrases
+pub mod PhrasesView
+pub mod Policy
 pub mod Sentences
 pub mod Shown
 pub mod Tables

@@ -9,6 +9,7 @@ pub mod Header
 pub mod Leaves
 pub mod Outcomes
 pub mod Page
+pub mod Policy
 pub mod Released
 pub mod Show
 pub mod Tables

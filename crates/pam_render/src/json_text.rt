@@ -8,6 +8,7 @@ mod form;
 mod header;
 mod outcomes;
 mod paths;
+mod policy;
 mod printing;
 mod show;
 mod steps;

@@ -8,6 +8,7 @@ mod files;
 mod findings;
 mod items;
 mod module_paths;
+mod policy;
 mod ways;
 mod writes;
 
@@ -20,5 +21,9 @@ pub use files::name_at;
 pub use findings::{CheckLine, CheckLines, FoundProblem, write_check};
 pub use items::{RulePlace, StackHead, StackLine, StackLines, write_stack};
 pub use module_paths::ModulePaths;
+pub use policy::{
+    PolicyHost, PolicyLine, PolicyLines, ToldFinding, ToldRule, kind_of_place, service_of_place,
+    write_policy,
+};
 pub use ways::UNCOUNTED;
 pub use writes::with_write_fault;

@@ -4,11 +4,15 @@
 
 mod faults;
 pub mod laws;
+mod phrase;
+mod policy;
 mod problems;
 mod shown;
 mod tables;
 
 pub use faults::{Naming, naming_of, plain_sentence};
+pub use phrase::{Phrase, Phrases, put_phrases};
+pub use policy::{policy_finding_name, put_policy_said};
 pub use problems::{
     UNUSED, argument_naming, level_name, module_naming, problem_sentence, put_said,
 };

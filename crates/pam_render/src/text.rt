@@ -11,6 +11,7 @@ mod form;
 mod header;
 mod outcomes;
 mod paths;
+mod policy;
 mod printing;
 mod released;
 mod show;

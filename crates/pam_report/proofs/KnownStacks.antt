@@ -156,6 +156,7 @@ module _ (IsAnswerOf : Items → Allowance → Answer → Type 0) (told : Result
   fault-found faults.NoSuchModule h = from-err faults.NoSuchModule h
   fault-found faults.NoSuchKey h = from-err faults.NoSuchKey h
   fault-found (faults.Facts e) h = from-err (faults.Facts e) h
+  fault-found (faults.Policy e) h = from-err (faults.Policy e) h
   fault-found (faults.Accept e) h = from-err (faults.Accept e) h
   fault-found faults.NoSuchNumber h = from-err faults.NoSuchNumber h
   fault-found faults.NoSuchService h = from-err faults.NoSuchService h

@@ -2,12 +2,15 @@ pub mod CandidateSteps
 pub mod CheckAnswers
 pub mod Civil
 pub mod ComparedSteps
+pub mod CountingFindings
 pub mod Drawings
 pub mod GoalPages
 pub mod Kept
 pub mod KnownStacks
 pub mod OutcomeLists
 pub mod PageParts
+pub mod PolicyAnswers
+pub mod PolicySteps
 pub mod ReleasedRules
 pub mod ServiceSteps
 pub mod SettingSteps

@@ -1,5 +1,5 @@
 -- The answer to a request: the reply that its inputs imply, or the first fault.
-use Rattle.std.specs.Prelude.{◌≡◌, ℕ, ◌&&◌, List, map, nat_lt, Option, Some, None, Result, Ok, Err, ◌==◌, if◌then◌else◌, length, slice_get, unwrap_or}
+use Rattle.std.specs.Prelude.{◌≡◌, ℕ, ◌&&◌, List, [], map, nat_lt, Option, Some, None, Result, Ok, Err, ◌==◌, if◌then◌else◌, length, slice_get, unwrap_or}
 use Rattle.std.specs.Char.{to_ascii_lowercase}
 use Rattle.std.specs.Option.{option_copied}
 use Rattle.pam_conf.specs.Files.{Folder}
@@ -30,7 +30,7 @@ use Rattle.pam_words.specs.declared.wanted.Answers.{Answers}
 use Rattle.pam_words.specs.declared.wanted.Login.{Login}
 use Rattle.pam_words.specs.declared.wanted.ReleaseName.{ReleaseName}
 use Rattle.pam_words.specs.declared.wanted.Task.{Task}
-use Rattle.pam_words.specs.declared.wanted.Task.TheVariants.{Show, Decide, Access, Time, Paths, Outcomes, Graph, Check, Compare, Explain, Facts, Version}
+use Rattle.pam_words.specs.declared.wanted.Task.TheVariants.{Show, Decide, Access, Time, Paths, Outcomes, Graph, Check, Compare, Policy, Explain, Facts, Version}
 use Rattle.pam_report.specs.Candidates.{CandidateText, IfUsed, first_unused}
 use Rattle.pam_report.specs.Check.{IsCheck}
 use Rattle.pam_report.specs.Compare.{IsCompare}
@@ -44,6 +44,7 @@ use Rattle.pam_report.specs.Memory.{WantsOnly, wants}
 use Rattle.pam_report.specs.Moments.{IsGivenMoment, IsMoment}
 use Rattle.pam_report.specs.Outcomes.{IsOutcomes}
 use Rattle.pam_report.specs.Paths.{IsPage}
+use Rattle.pam_report.specs.Policy.{IsPolicy, visitor_of}
 use Rattle.pam_report.specs.Released.{ReleasedValue, released}
 use Rattle.pam_report.specs.Reply.{Answer, RunValue, Released, Run, Stack}
 use Rattle.pam_report.specs.Reply.{Explained, Explanations}
@@ -174,6 +175,15 @@ module _ (Gives : (Answer → Type 0) → Type 0) where
   AnswersBy service candidates (Compare old new named kind given) files inputs =
       Gives (IfServices (sides_have inputs (option_copied named))
       (IsCompare (option_copied named) kind (map setting_view given.settings.items) inputs))
+  AnswersBy service candidates (Policy source names fail_on knowledge) files inputs =
+      (at : Option (Result DateTime MomentError)) × IsGivenMoment knowledge.moment at
+      × Gives (IfUsed (first_unused files [] candidates) (IsPolicy (record {
+        names = map (λ n. n.now) names.items;
+        fail_on = fail_on;
+        visitor = visitor_of knowledge.login;
+        settings = map setting_view knowledge.settings.items;
+        moment = at;
+      }) files inputs))
   AnswersBy service candidates (Explain number) files inputs = Gives (λ answer. explained (option_copied number) ≡ answer)
   AnswersBy service candidates Facts files inputs = Gives (λ answer. Ok FactsReply ≡ answer)
   AnswersBy service candidates Version files inputs = Gives (λ answer. Ok VersionReply ≡ answer)

@@ -17,7 +17,11 @@ use Rattle.pam_facts.specs.declared.known.error.NumberedError.{NumberedError}
 use Rattle.pam_paths.specs.declared.cursor.CursorError.{CursorError}
 use Rattle.pam_paths.specs.declared.cursor.CursorError.TheVariants as cursor
 use Rattle.pam_report.specs.FaultTable.{Row, accept_row, candidate_row, conf_row, count_row, cursor_row, facts_row, graph_row, input_row, key_row, memory_row}
-use Rattle.pam_report.specs.FaultTable.{module_row, moment_row, number_row, service_row, table_name, table_row, time_row, usage_row, write_row}
+use Rattle.pam_report.specs.FaultTable.{module_row, moment_row, number_row, policy_row, service_row, table_name, table_row, time_row, usage_row, write_row}
+use Rattle.pam_policy.specs.declared.text.error.PolicyError.{PolicyError}
+use Rattle.pam_policy.specs.declared.text.error.PolicyFault.{PolicyFault}
+use Rattle.pam_policy.specs.declared.text.error.PolicyFault.TheVariants as policy
+use Rattle.pam_report.specs.declared.fault.policies.PolicyFileError.{PolicyFileError}
 use Rattle.pam_report.specs.declared.fault.Fault.{Fault}
 use Rattle.pam_report.specs.declared.fault.Fault.TheVariants as faults
 use Rattle.pam_report.specs.declared.inputs.InputError.{InputError}
@@ -51,12 +55,21 @@ abbrev pub accept_fault : AcceptError → Fault
 accept_fault accept.Memory = faults.Memory
 accept_fault e = faults.Accept e
 
+-- the fault of the policy of a number, from 1. A failed allocation has no place
+abbrev pub fault_of_policy : PolicyFault → PolicyFileError → Fault
+fault_of_policy policy.Memory e = faults.Memory
+fault_of_policy fault e = faults.Policy e
+
+abbrev pub policy_fault : ℕ → PolicyError → Fault
+policy_fault number e = fault_of_policy e.fault (record { number = number; error = e })
+
 -- the row of a fault in the table
 abbrev pub row_of : Fault → Row
 row_of (faults.Conf e) = conf_row e.kind
 row_of (faults.Table e) = table_row e.error.fault
 row_of (faults.Time e) = time_row e.fault
 row_of (faults.Facts e) = facts_row e.fault
+row_of (faults.Policy e) = policy_row e.error.fault
 row_of (faults.Accept e) = accept_row e
 row_of (faults.Moment e) = moment_row e
 row_of (faults.Count e) = count_row
@@ -100,12 +113,17 @@ abbrev pub accept_file : AcceptError → Option (List ℕ)
 accept_file accept.Memory = None
 accept_file e = Some (codes "accept")
 
+-- the same of a policy
+abbrev pub policy_file : PolicyFault → Option (List ℕ)
+policy_file policy.Memory = None
+policy_file fault = Some (codes "policy")
+
 -- ` FILE:LINE`, if there is a file
 abbrev pub line_place : Option (List ℕ) → ℕ → List ℕ
 line_place None line = []
 line_place (Some file) line = concat (codes " " ∷ file ∷ codes ":" ∷ decimal line ∷ [])
 
--- ` TABLE:LINE`, and ` TABLE[N]:LINE` for the access table of a number after the first. A failed allocation has no place
+-- ` TABLE:LINE`, and ` TABLE[N]:LINE` for the access table or the policy of a number after the first. A failed allocation has no place
 abbrev pub place_in_table : ℕ → Option (List ℕ) → ℕ → List ℕ
 place_in_table number None line = []
 place_in_table number (Some name) line =
@@ -113,6 +131,9 @@ place_in_table number (Some name) line =
 
 abbrev pub table_place : NumberedError → List ℕ
 table_place e = place_in_table e.number (table_file e.error.table e.error.fault) e.error.line
+
+abbrev pub policy_place : PolicyFileError → List ℕ
+policy_place e = place_in_table e.number (policy_file e.error.fault) e.error.line
 
 -- ` step N`, for the code of a cursor with this number, from 1
 abbrev pub cursor_place : CursorError → List ℕ
@@ -124,6 +145,7 @@ place_of files (faults.Conf e) = line_place (conf_file files e.at e.kind) e.line
 place_of files (faults.Table e) = table_place e
 place_of files (faults.Time e) = line_place (time_file e.fault) e.line
 place_of files (faults.Facts e) = line_place (facts_file e.fault) e.line
+place_of files (faults.Policy e) = policy_place e
 place_of files (faults.Accept e) = line_place (accept_file e) (accept_line e)
 place_of files (faults.Count e) = concat (codes " want " ∷ decimal e.modules ∷ [])
 place_of files (faults.Cursor e) = cursor_place e

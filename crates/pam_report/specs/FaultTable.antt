@@ -11,6 +11,8 @@ use Rattle.pam_facts.specs.declared.error.FactsFault.{FactsFault}
 use Rattle.pam_facts.specs.declared.error.FactsFault.TheVariants as facts
 use Rattle.pam_paths.specs.declared.cursor.CursorError.{CursorError}
 use Rattle.pam_paths.specs.declared.cursor.CursorError.TheVariants as cursor
+use Rattle.pam_policy.specs.declared.text.error.PolicyFault.{PolicyFault}
+use Rattle.pam_policy.specs.declared.text.error.PolicyFault.TheVariants as policy
 use Rattle.pam_report.specs.declared.inputs.InputError.{InputError}
 use Rattle.pam_report.specs.declared.inputs.InputError.TheVariants as inputs
 use Rattle.pam_tables.specs.declared.error.Table.{Table}
@@ -141,6 +143,21 @@ facts_row facts.BadFact = row (codes "TE16 BadFact") 4
 facts_row facts.NulByte = row (codes "TE10 NulByte") 4
 facts_row facts.Memory = row (codes "TE11 Memory") 6
 facts_row facts.TooLong = row (codes "TE12 TableTooLong") 4
+
+unfoldable pub policy_row : PolicyFault → Row
+policy_row policy.MissingField = row (codes "TE1 MissingField") 4
+policy_row policy.NulByte = row (codes "TE10 NulByte") 4
+policy_row policy.Memory = row (codes "TE11 Memory") 6
+policy_row policy.TableTooLong = row (codes "TE12 TableTooLong") 4
+policy_row policy.BadCode = row (codes "TE13 BadCode") 4
+policy_row policy.BadServices = row (codes "TE17 BadServices") 4
+policy_row policy.BadKinds = row (codes "TE18 BadKinds") 4
+policy_row policy.BadVerb = row (codes "TE19 BadVerb") 4
+policy_row policy.BadEvent = row (codes "TE20 BadEvent") 4
+policy_row policy.BadList = row (codes "TE21 BadList") 4
+policy_row policy.NoAnswers = row (codes "TE22 NoAnswers") 4
+policy_row policy.ExtraWord = row (codes "TE23 ExtraWord") 4
+policy_row policy.TooManyRules = row (codes "TE24 TooManyRules") 4
 
 unfoldable pub accept_row : AcceptError → Row
 accept_row (accept.BadAccept line) = row (codes "TE15 BadAccept") 4

@@ -16,7 +16,7 @@ use Rattle.pam_words.specs.Wanted.{facts_named}
 use Rattle.pam_words.specs.declared.wanted.Task.{Task}
 use Rattle.pam_words.specs.declared.wanted.KnowledgeSource.{KnowledgeSource}
 use Rattle.pam_words.specs.declared.wanted.TableNames.{TableNames}
-use Rattle.pam_words.specs.declared.wanted.Task.TheVariants.{Check, Compare, Show, Decide, Access, Time, Paths, Outcomes, Graph, Explain, Facts, Version}
+use Rattle.pam_words.specs.declared.wanted.Task.TheVariants.{Check, Compare, Show, Decide, Access, Time, Paths, Outcomes, Graph, Policy, Explain, Facts, Version}
 use Rattle.pam_words.specs.declared.wanted.CheckFiles.{CheckFiles}
 use Rattle.pam_words.specs.declared.wanted.CompareFiles.{CompareFiles}
 use Rattle.pam_report.specs.declared.inputs.AccessFiles.{AccessFiles}
@@ -130,6 +130,11 @@ abbrev pub time_given : Inputs → List ℕ
 time_given (inputs.Time table) = table.items
 time_given _ = []
 
+-- the contents of the policies of `policy`, in their order
+abbrev pub policies_given : Inputs → List (List ℕ)
+policies_given (inputs.Paths files given) = given.policies
+policies_given _ = []
+
 -- ---- inputs that fit
 
 -- a path for the whole configuration, and one for each file
@@ -159,6 +164,10 @@ fits_knowledge named (inputs.Paths files given) =
     && (beq (is_some given.returns) (is_some named.returns) && has_named_tables named.tables given.tables)
 fits_knowledge named _ = false
 
+-- so many policies
+abbrev pub has_policies : ℕ → Inputs → Bool
+has_policies count inputs = length (policies_given inputs) == count
+
 -- the contents of exactly the facts file and the returns file that are named
 abbrev pub fits_compare : CompareFiles → Option (Vec ℕ Global) → Option (Vec ℕ Global) → Bool
 fits_compare named facts returns = beq (is_some facts) (is_some named.facts) && beq (is_some returns) (is_some named.returns)
@@ -175,6 +184,7 @@ fits_task (Time name login moment) (inputs.Time table) = true
 fits_task (Paths source kind limit part filter knowledge) inputs = fits_knowledge knowledge inputs
 fits_task (Outcomes source kind knowledge) inputs = fits_knowledge knowledge inputs
 fits_task (Graph source kind format knowledge) inputs = fits_knowledge knowledge inputs
+fits_task (Policy source names fail_on knowledge) inputs = fits_knowledge knowledge inputs && has_policies (length names.items) inputs
 fits_task (Explain number) inputs.Nothing = true
 fits_task Facts inputs.Nothing = true
 fits_task Version inputs.Nothing = true

@@ -18,6 +18,8 @@ pub mod Names
 pub mod Outcomes
 pub mod PageView
 pub mod Paths
+pub mod Policy
+pub mod PolicyLevels
 pub mod Refusal
 pub mod Released
 pub mod Reply

@@ -4,12 +4,13 @@ use Rattle.pam_findings.specs.declared.accepted.error.AcceptError.TheVariants as
 use Rattle.pam_conf.specs.declared.error.FaultKind.TheVariants as conf
 use Rattle.pam_facts.specs.declared.error.FactsFault.TheVariants as facts
 use Rattle.pam_facts.specs.known.Reads.{TablesRead}
+use Rattle.pam_policy.specs.declared.text.error.PolicyFault.TheVariants as policy
 use Rattle.pam_tables.specs.declared.error.Table.{Table}
 use Rattle.pam_tables.specs.declared.error.Table.TheVariants.{Access as AccessTable, Group, Returns}
 use Rattle.pam_tables.specs.declared.error.TableFault.TheVariants as reasons
 use Rattle.pam_tables.specs.declared.times.error.TimeFault.TheVariants as times
 use Rattle.pam_words.specs.declared.wanted.Task.{Task}
-use Rattle.pam_words.specs.declared.wanted.Task.TheVariants.{Check, Compare, Show, Decide, Access, Time, Paths, Outcomes, Graph, Explain, Facts, Version}
+use Rattle.pam_words.specs.declared.wanted.Task.TheVariants.{Check, Compare, Show, Decide, Access, Time, Paths, Outcomes, Graph, Policy, Explain, Facts, Version}
 use Rattle.pam_report.specs.Inputs.{group_file, has_access, returns_given}
 use Rattle.pam_report.specs.declared.fault.Fault.{Fault}
 use Rattle.pam_report.specs.declared.fault.Fault.TheVariants as faults
@@ -79,6 +80,7 @@ wants (Time table login moment) inputs = of_tables false false true
 wants (Paths source kind limit part filter knowledge) inputs = of_paths (paths_tables (is_some knowledge.moment) inputs)
 wants (Outcomes source kind knowledge) inputs = of_paths (paths_tables (is_some knowledge.moment) inputs)
 wants (Graph source kind format knowledge) inputs = of_paths (paths_tables (is_some knowledge.moment) inputs)
+wants (Policy source names fail_on knowledge) inputs = of_paths (paths_tables (is_some knowledge.moment) inputs)
 
 abbrev pub wants_table : Wants → Table → Bool
 wants_table wants AccessTable = wants.access
@@ -92,6 +94,7 @@ IsWanting wants (faults.Conf e) = e.kind ≡ conf.Memory → wants.configuration
 IsWanting wants (faults.Table e) = e.error.fault ≡ reasons.Memory → wants_table wants e.error.table ≡ true
 IsWanting wants (faults.Time e) = e.fault ≡ times.Memory → wants.time ≡ true
 IsWanting wants (faults.Facts e) = e.fault ≢ facts.Memory
+IsWanting wants (faults.Policy e) = e.error.fault ≢ policy.Memory
 IsWanting wants (faults.Accept e) = e ≢ accept.Memory
 IsWanting wants _ = ⊤
 

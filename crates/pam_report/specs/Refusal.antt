@@ -1,5 +1,5 @@
 -- The line of a fault of a request, which says what the request names.
-use Rattle.std.specs.Prelude.{ℕ, not, List, [], ◌∷◌, ◌++◌, codes, filter, find, map, Option, Some, None, unwrap_or}
+use Rattle.std.specs.Prelude.{ℕ, ◌==◌, ◌-◌, not, if◌then◌else◌, List, [], ◌∷◌, ◌++◌, codes, filter, find, map, Option, Some, None, slice_get, unwrap_or}
 use Rattle.std.specs.Char.{to_ascii_lowercase}
 use Rattle.std.specs.List.{concat}
 use Rattle.std.specs.Option.{option_copied, option_map_or, option_or}
@@ -12,13 +12,14 @@ use Rattle.pam_spelling.specs.Nearest.{nearest}
 use Rattle.pam_words.specs.declared.wanted.ConfSource.{ConfSource}
 use Rattle.pam_words.specs.declared.wanted.ConfSource.TheVariants.{Dir, Over, Conf, Root}
 use Rattle.pam_words.specs.declared.wanted.Task.{Task}
-use Rattle.pam_words.specs.declared.wanted.Task.TheVariants.{Check, Compare, Outcomes, Graph}
+use Rattle.pam_words.specs.declared.wanted.Task.TheVariants.{Check, Compare, Outcomes, Graph, Policy}
 use Rattle.pam_report.specs.Candidates.{CandidateText, first_unused}
 use Rattle.pam_report.specs.Compare.{side_of}
-use Rattle.pam_report.specs.Fault.{fault_line, line_of}
-use Rattle.pam_report.specs.FaultTable.{candidate_row, service_row}
+use Rattle.pam_report.specs.Fault.{fault_line, line_of, line_place, policy_place}
+use Rattle.pam_report.specs.FaultTable.{candidate_row, policy_row, service_row}
 use Rattle.pam_report.specs.Inputs.{files_given, new_given, no_files, old_given}
 use Rattle.pam_report.specs.Services.{has_service}
+use Rattle.pam_report.specs.declared.fault.policies.PolicyFileError.{PolicyFileError}
 use Rattle.pam_report.specs.declared.fault.Fault.{Fault}
 use Rattle.pam_report.specs.declared.fault.Fault.TheVariants as faults
 use Rattle.pam_report.specs.declared.inputs.Inputs.{Inputs}
@@ -104,15 +105,39 @@ unused_with name hinted = concat (codes ": no service that is checked reads \"" 
 abbrev pub unused_text : Folder → List ℕ → List ℕ
 unused_text folder name = unused_with name (hint (nearest_other folder name))
 
--- what is said of the first candidate that no service reads
+-- what is said of the first candidate that none of these services reads
+abbrev pub unused_among : List CandidateText → List (List ℕ) → Folder → List ℕ
+unused_among candidates services files = option_map_or (unused_text files) (first_unused files services candidates) []
+
+-- what is said of the first candidate that no service reads. Policies speak of all services
 abbrev pub unused_of : List CandidateText → Task → Folder → List ℕ
-unused_of candidates (Check source services fail_on named) files = option_map_or (unused_text files) (first_unused files services candidates) []
+unused_of candidates (Check source services fail_on named) files = unused_among candidates services files
+unused_of candidates (Policy source names fail_on knowledge) files = unused_among candidates [] files
 unused_of candidates task files = []
 
--- THE LINE of a fault of a request: what U18 says of the name, and U19 of the candidate, and of others the line of the fault
+-- the name of the policy of a number, from 1
+abbrev pub policy_name : List (List ℕ) → ℕ → Option (List ℕ)
+policy_name names number = if number == 0 then None else slice_get names (number - 1)
+
+-- ` FILE:LINE`, with the name of the policy
+abbrev pub named_place : Option (List ℕ) → PolicyFileError → List ℕ
+named_place None e = policy_place e
+named_place (Some name) e = line_place (Some name) e.error.line
+
+abbrev pub place_in_policy : List (List ℕ) → PolicyFileError → List ℕ
+place_in_policy names e = named_place (policy_name names e.number) e
+
+-- the place of a fault of a policy, which has the name that the task gives it
+abbrev pub place_of_policy : Task → PolicyFileError → List ℕ
+place_of_policy (Policy source names fail_on knowledge) e = place_in_policy (map (λ n. n.now) names.items) e
+place_of_policy task e = policy_place e
+
+-- THE LINE of a fault of a request: what U18 says of the name, and U19 of the candidate, that of a policy with its name, and of others the
+-- line of the fault
 abbrev pub refusal_line : List ℕ → List CandidateText → Task → Inputs → Fault → List ℕ
 refusal_line service candidates task inputs faults.NoSuchService =
     line_of service_row (unknown_text service task (unwrap_or (files_given inputs) no_files) inputs)
 refusal_line service candidates task inputs faults.UnusedCandidate =
     line_of candidate_row (unused_of candidates task (unwrap_or (files_given inputs) no_files))
+refusal_line service candidates task inputs (faults.Policy e) = line_of (policy_row e.error.fault) (place_of_policy task e)
 refusal_line service candidates task inputs fault = fault_line (unwrap_or (files_given inputs) no_files) fault

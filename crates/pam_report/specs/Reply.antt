@@ -19,6 +19,9 @@ use Rattle.pam_findings.specs.declared.host.report.Finding.{Finding}
 use Rattle.pam_findings.specs.declared.host.way_in.WayIn.{WayIn}
 use Rattle.pam_graph.specs.declared.goal.Goal.{Goal}
 use Rattle.pam_findings.specs.misspelled.Misspelled.{MisspelledText}
+use Rattle.pam_policy.specs.host.Findings.{FindingText, findings_of}
+use Rattle.pam_policy.specs.declared.host.report.RuleReport.{RuleReport}
+use Rattle.pam_policy.specs.declared.host.stacks.HostStacks.{HostStacks}
 use Rattle.pam_paths.specs.Listing.{Allowance}
 use Rattle.pam_paths.specs.Paths.{PathValue}
 use Rattle.pam_tables.specs.declared.access.AccessAnswer.{AccessAnswer}
@@ -31,9 +34,11 @@ use Rattle.pam_words.specs.declared.wanted.LevelName.{LevelName}
 use Rattle.pam_words.specs.declared.wanted.LevelName.TheVariants as names
 use Rattle.pam_words.specs.declared.wanted.PagePart.{PagePart}
 use Rattle.pam_report.specs.Decide.{AskedModule}
+use Rattle.pam_report.specs.PolicyLevels.{policy_level}
 use Rattle.pam_report.specs.Released.{ReleasedValue}
 use Rattle.pam_report.specs.TablePaths.{TablePathsText, level_of_table_problem}
 use Rattle.pam_report.specs.declared.fault.Fault.{Fault}
+use Rattle.pam_report.specs.declared.report.policy.JudgedPolicy.{JudgedPolicy}
 use Rattle.pam_report.specs.declared.report.Status.{Status}
 use Rattle.pam_report.specs.declared.report.Status.TheVariants.{Success, Refusal, Faulty}
 
@@ -109,6 +114,13 @@ pub record CompareValue : Type 0 where
   pub new : Folder
   pub changes : HostChanges
 
+-- the stacks of a host, what these say of the rules of policies, and the least level of a finding that makes the status a refusal
+pub record PolicyValue : Type 0 where
+  pub files : Folder
+  pub stacks : HostStacks
+  pub policies : List JudgedPolicy
+  pub fail_on : LevelName
+
 pub data Reply : Type 0 where
   Stack : StackValue → Reply
   Released : ReleasedValue → Reply
@@ -121,6 +133,7 @@ pub data Reply : Type 0 where
   Page : PageValue → Reply
   Check : CheckValue → Reply
   Compared : CompareValue → Reply
+  Policy : PolicyValue → Reply
   Explained : Explanation → Reply
   Explanations : Reply
   Facts : Reply
@@ -178,6 +191,21 @@ status_of_counts counts =
 abbrev pub compare_status : CompareValue → Status
 compare_status value = status_of_counts (counts_of value.changes)
 
+-- some of these findings of a policy counts
+abbrev pub any_counts : LevelName → List FindingText → Bool
+any_counts fail_on found = list_any (λ finding. counts fail_on (policy_level finding)) found
+
+-- some finding of a rule counts
+abbrev pub has_counting_report : LevelName → RuleReport → Bool
+has_counting_report fail_on report = any_counts fail_on (findings_of report)
+
+-- some finding of some rule of a policy counts
+abbrev pub has_counting_rule : LevelName → JudgedPolicy → Bool
+has_counting_rule fail_on policy = list_any (has_counting_report fail_on) policy.reports.items
+
+abbrev pub policy_status : PolicyValue → Status
+policy_status value = if list_any (has_counting_rule value.fail_on) value.policies then Refusal else Success
+
 -- THE STATUS of a reply
 abbrev pub status_of : Reply → Status
 status_of (Run run) = status_of_decision run.decision
@@ -185,13 +213,16 @@ status_of (Access answer table) = access_status answer
 status_of (Time found) = time_status found
 status_of (Check found) = check_status found
 status_of (Compared changes) = compare_status changes
+status_of (Policy found) = policy_status found
 status_of _ = Success
 
--- memory is wanted to print a reply: for the lines of a page, for the title of a drawing, and for the names of a check
+-- memory is wanted to print a reply: for the lines of a page, for the title of a drawing, for the names of a check, and for the findings of
+-- policies
 abbrev pub wants_memory : Reply → Bool
 wants_memory (Page page) = true
 wants_memory (Drawing drawing) = true
 wants_memory (Check found) = true
+wants_memory (Policy found) = true
 wants_memory _ = false
 
 abbrev pub status_number : Status → ℕ

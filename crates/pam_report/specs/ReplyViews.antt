@@ -17,6 +17,7 @@ use Rattle.pam_report.specs.declared.report.compare.CompareReply.{CompareReply}
 use Rattle.pam_report.specs.declared.report.graph.GraphReply.{GraphReply}
 use Rattle.pam_report.specs.declared.report.outcomes.Outcome.{Outcome}
 use Rattle.pam_report.specs.declared.report.outcomes.OutcomesReply.{OutcomesReply}
+use Rattle.pam_report.specs.declared.report.policy.PolicyReply.{PolicyReply}
 use Rattle.pam_report.specs.declared.report.released.ReleasedReply.{ReleasedReply}
 use Rattle.pam_report.specs.declared.report.replies.Reply.{Reply}
 use Rattle.pam_report.specs.declared.report.replies.Reply.TheVariants as replies
@@ -83,12 +84,15 @@ check_view c = record {
   fail_on = c.fail_on;
 }
 
--- the files of a side of a comparison, none if it is not given
+-- the files of a configuration, none if it is not given
 abbrev pub side_files : Option (Bor Folder) → Folder
 side_files files = unwrap_or (option_map (λ f. f.now) files) no_files
 
 abbrev pub compare_view : CompareReply → spec.CompareValue
 compare_view c = record { old = side_files c.old; new = side_files c.new; changes = c.changes }
+
+abbrev pub policy_view : PolicyReply → spec.PolicyValue
+policy_view p = record { files = side_files p.files; stacks = p.stacks; policies = p.policies.items; fail_on = p.fail_on }
 
 -- THE VALUE of a reply
 abbrev pub reply_view : Reply → spec.Reply
@@ -101,6 +105,7 @@ reply_view (replies.Outcomes outcomes) = spec.Outcomes (outcomes_view outcomes)
 reply_view (replies.Graph drawing) = spec.Drawing (drawing_view drawing)
 reply_view (replies.Check check) = spec.Check (check_view check)
 reply_view (replies.Compared changes) = spec.Compared (compare_view changes)
+reply_view (replies.Policy policies) = spec.Policy (policy_view policies)
 reply_view (replies.Explained explanation) = spec.Explained (explanation_view explanation)
 reply_view replies.Explanations = spec.Explanations
 reply_view replies.Facts = spec.Facts

@@ -10,5 +10,6 @@ pub mod Known
 pub mod Memory
 pub mod OutcomeViews
 pub mod PageView
+pub mod Policy
 pub mod Services
 pub mod Tasks

@@ -7,6 +7,8 @@ ghost use Rattle.pam_report.specs.Fault.{IsNumbered};
 ghost use Rattle.pam_report.specs.FaultTable.{conf_row as conf_fault_row, table_row as table_fault_row, time_row as time_fault_row};
 ghost use Rattle.pam_report.specs.inner.FaultViews.{row_view};
 
+mod place;
+mod policies;
 mod refusal;
 mod row;
 mod table;
@@ -19,15 +21,18 @@ use pam_facts::known::{KnownError, NumberedError};
 use pam_facts::{FactsError, FactsFault};
 use pam_findings::accepted::AcceptError;
 use pam_paths::CursorError;
+use pam_tables::TableFault;
 use pam_tables::times::{MomentError, TimeError, TimeFault};
-use pam_tables::{TableError, TableFault};
 use pam_words::Usage;
+use place::{accept_file, conf_file, facts_file, policy_file, table_file, time_file};
+pub use policies::PolicyFileError;
+pub(crate) use policies::policy_fault;
 pub use refusal::refusal_text;
 use row::Row;
 use std::alloc::{AllocError, Global};
 use table::{
     accept_row, candidate_row, conf_row, count_row, cursor_row, facts_row, graph_row, input_row,
-    key_row, memory_row, module_row, moment_row, number_row, service_row, table_name, table_row,
+    key_row, memory_row, module_row, moment_row, number_row, policy_row, service_row, table_row,
     time_row, usage_row, write_row,
 };
 use thiserror::Error;
@@ -47,6 +52,9 @@ pub enum Fault {
     /// A fault of a facts file. A failed allocation is `Memory`.
     #[error(transparent)]
     Facts(FactsError),
+    /// A fault of a policy. A failed allocation is `Memory`.
+    #[error(transparent)]
+    Policy(PolicyFileError),
     /// A fault of an accept file. A failed allocation is `Memory`.
     #[error(transparent)]
     Accept(AcceptError),
@@ -124,6 +132,7 @@ fn row_of(fault: &Fault) -> Row
         Fault::Table(error) => table_row(error.error.fault),
         Fault::Time(error) => time_row(error.fault),
         Fault::Facts(error) => facts_row(error.fault),
+        Fault::Policy(error) => policy_row(error.error.fault),
         Fault::Accept(error) => accept_row(*error),
         Fault::Moment(error) => moment_row(*error),
         Fault::Count(_) => count_row(),
@@ -191,29 +200,6 @@ fn line_at(alloc: Global, row: Row, file: Option<&[u8]>, number: u64) -> Result<
     }
 }
 
-/// Returns the name of the file of a fault, if it has a place.
-fn conf_file<'a>(files: &'a Files, error: &ConfError) -> Option<&'a [u8]>
-    ensures { option_map (λ name. name.now) result ≡ spec.conf_file files.now error.now.at error.now.kind }
-{
-    if error.kind == FaultKind::Memory {
-        return None;
-    }
-    match error.at {
-        Some(position) => files.name(position),
-        None => None,
-    }
-}
-
-/// Returns the name of the table of a fault, if it has a place.
-fn table_file(error: &TableError) -> Option<&'static [u8]>
-    ensures { option_map (λ name. name.now) result ≡ spec.table_file error.now.table error.now.fault }
-{
-    if error.fault == TableFault::Memory {
-        return None;
-    }
-    Some(table_name(error.table).as_bytes())
-}
-
 /// Returns the line of a row, with a place in a table. One with a number above 1 is named with it.
 fn line_in(
     alloc: Global,
@@ -241,6 +227,22 @@ fn line_in(
     line_at(alloc, row, Some(table), at)
 }
 
+/// Returns the line of a fault of a policy. One after the first is named with its number.
+fn policy_line(alloc: Global, row: Row, error: &PolicyFileError) -> Result<Vec<u8>, AllocError>
+    ensures { IfOk result (λ text. text.items ≡ spec.line_of (row_view row) (spec.policy_place error.now)) }
+{
+    match policy_file(error.error.fault) {
+        Some(policy) => line_in(
+            alloc,
+            row,
+            policy,
+            error.number,
+            u64::from(error.error.line),
+        ),
+        None => line(alloc, row, &[]),
+    }
+}
+
 /// Returns the line of a fault of a table. An access table after the first is named with its number.
 fn table_line(alloc: Global, row: Row, error: &NumberedError) -> Result<Vec<u8>, AllocError>
     ensures { IfOk result (λ text. text.items ≡ spec.line_of (row_view row) (spec.table_place error.now)) }
@@ -248,36 +250,6 @@ fn table_line(alloc: Global, row: Row, error: &NumberedError) -> Result<Vec<u8>,
     match table_file(&error.error) {
         Some(table) => line_in(alloc, row, table, error.number, u64::from(error.error.line)),
         None => line(alloc, row, &[]),
-    }
-}
-
-/// Returns the place of a fault of a time table, if it has one.
-fn time_file(fault: TimeFault) -> Option<&'static [u8]>
-    ensures { option_map (λ name. name.now) result ≡ spec.time_file fault }
-{
-    if fault == TimeFault::Memory {
-        return None;
-    }
-    Some("time".as_bytes())
-}
-
-/// Returns the place of a fault of a facts file, if it has one.
-fn facts_file(fault: FactsFault) -> Option<&'static [u8]>
-    ensures { option_map (λ name. name.now) result ≡ spec.facts_file fault }
-{
-    if fault == FactsFault::Memory {
-        return None;
-    }
-    Some("facts".as_bytes())
-}
-
-/// Returns the place of a fault of an accept file, if it has one.
-fn accept_file(error: AcceptError) -> Option<&'static [u8]>
-    ensures { option_map (λ name. name.now) result ≡ spec.accept_file error }
-{
-    match error {
-        AcceptError::Memory => None,
-        AcceptError::BadAccept(_) | AcceptError::Source(_) => Some("accept".as_bytes()),
     }
 }
 
@@ -307,6 +279,7 @@ pub fn fault_text(alloc: Global, fault: &Fault, files: &Files) -> Result<Vec<u8>
         Fault::Table(error) => table_line(alloc, row, error),
         Fault::Time(error) => line_at(alloc, row, time_file(error.fault), u64::from(error.line)),
         Fault::Facts(error) => line_at(alloc, row, facts_file(error.fault), u64::from(error.line)),
+        Fault::Policy(error) => policy_line(alloc, row, error),
         Fault::Accept(error) => line_at(alloc, row, accept_file(*error), u64::from(error.line())),
         Fault::Count(error) => line(
             alloc,

@@ -94,6 +94,8 @@ pub struct KnowledgeInputs {
     pub facts: Option<Vec<u8>>,
     /// The contents of the returns file, if one is named.
     pub returns: Option<Vec<u8>>,
+    /// The contents of the policies, in the order in which they are named; none for another command than `policy`.
+    pub policies: Texts,
 }
 
 /// One of the two configurations of a comparison.
@@ -131,7 +133,7 @@ pub enum Inputs {
     Time {
         table: Vec<u8>,
     },
-    /// For `paths`, `outcomes` and `graph`.
+    /// For `paths`, `outcomes`, `graph` and `policy`.
     Paths {
         files: Files,
         given: KnowledgeInputs,

@@ -12,8 +12,8 @@ mod services;
 mod tables;
 
 pub use fault::{
-    Fault, conf_name, fault_status, fault_text, input_status, input_text, refusal_text,
-    usage_status, usage_text,
+    Fault, PolicyFileError, conf_name, fault_status, fault_text, input_status, input_text,
+    refusal_text, usage_status, usage_text,
 };
 pub use inputs::{
     AccessFiles, CheckInputs, InputError, Inputs, KnowledgeInputs, SideInputs, TableFile,
@@ -21,8 +21,8 @@ pub use inputs::{
 };
 pub use names::{kind_name, problem_name, stack_of};
 pub use report::{
-    AccessReply, AskedModule, CheckReply, CompareReply, GraphReply, Outcome, Outcomes,
-    OutcomesReply, PageRenderer, PathsPage, ReleasedReply, Reply, RunReply, StackReply, Status,
-    Trace, path_at, reply_to,
+    AccessReply, AskedModule, CheckReply, CompareReply, GraphReply, JudgedPolicy, Outcome,
+    Outcomes, OutcomesReply, PageRenderer, PathsPage, PolicyReply, ReleasedReply, Reply, RunReply,
+    StackReply, Status, Trace, path_at, policy_level, reply_to,
 };
 pub use tables::{TablePaths, table_problem_level, table_problem_name};

@@ -23,6 +23,7 @@ mod known_stack;
 mod login;
 mod outcomes;
 mod paths;
+mod policy;
 mod released;
 mod renderer;
 mod replies;
@@ -51,6 +52,8 @@ use pam_conf::{Files, Form, Kind};
 use pam_words::{KnowledgeSource, Request, Task};
 pub use paths::PathsPage;
 use paths::{PageRequest, answer_paths};
+pub use policy::{JudgedPolicy, PolicyReply, policy_level};
+use policy::{PolicyRequest, answer_policy};
 pub use released::ReleasedReply;
 pub use renderer::PageRenderer;
 pub use replies::{AccessReply, Reply};
@@ -273,6 +276,23 @@ fn reply_from<'a>(
             };
             compared(alloc, asked, inputs)
         }
+        Task::Policy {
+            policies,
+            fail_on,
+            knowledge,
+            ..
+        } => answer_policy(&PolicyRequest {
+            alloc,
+            files,
+            kept: inputs.files(),
+            inputs,
+            candidates: &request.candidates,
+            names: policies,
+            fail_on: *fail_on,
+            login: knowledge.login,
+            settings: &knowledge.settings,
+            moment: given_moment(knowledge.moment),
+        }),
         Task::Explain(number) => explained(*number),
         Task::Facts => Ok(Reply::Facts),
         Task::Version => Ok(Reply::Version),

@@ -91,6 +91,13 @@ pub record CheckTask : Type 0 where
   pub facts : Option Text
   pub accept : Option Text
 
+-- the policies are one or more, in the order in which they are given
+pub record PolicyTask : Type 0 where
+  pub source : SourceText
+  pub policies : List Text
+  pub fail_on : LevelName
+  pub knowledge : KnowledgeText
+
 -- the service and the kind are all if none is named. The folders of modules, a facts file and a returns file may be named, and the codes
 -- of modules
 pub record CompareTask : Type 0 where
@@ -119,6 +126,7 @@ pub data TaskText : Type 0 where
   paths : PathsTask → TaskText
   outcomes : OutcomesTask → TaskText
   graph : GraphTask → TaskText
+  policy : PolicyTask → TaskText
   explain : Option Text → TaskText
   facts : TaskText
   version : TaskText

@@ -1,5 +1,5 @@
 -- The candidates: `--with NAME=FILE`, and each SERVICE of `check` that is a file.
-use Rattle.std.specs.Prelude.{ℕ, ◌==◌, ◌&&◌, ◌||◌, Bool, false, true, not, List, [], ◌∷◌, ◌++◌, filter, map, Option, Result, Ok, Err, if◌then◌else◌, unwrap_or}
+use Rattle.std.specs.Prelude.{◌==◌, ◌&&◌, Bool, false, true, not, List, [], ◌∷◌, filter, map, Option, Result, Ok, Err, if◌then◌else◌, unwrap_or}
 use Rattle.std.specs.List.{list_all, list_any}
 use Rattle.clap.specs.Lexer.{name_and_value}
 use Rattle.clap.specs.Words.{Text}

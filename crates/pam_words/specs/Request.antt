@@ -4,8 +4,8 @@ use Rattle.std.specs.Str.{bytes_eq}
 use Rattle.pam_conf.specs.declared.Kind.{Kind}
 use Rattle.clap.specs.Words.{Row, Text, first_of}
 use Rattle.pam_words.specs.Asked.{AnswersText, KnowledgeText, MomentText, Refusal, RequestText, SourceText, TaskText}
-use Rattle.pam_words.specs.Asked.{access, check, compare, decide, explain, facts, graph, outcomes, paths, show, time, version}
-use Rattle.pam_words.specs.Asked.{answers_name, any, both_ends, both_filters, code_name, format_name, kind_name, level_name}
+use Rattle.pam_words.specs.Asked.{access, check, compare, decide, explain, facts, graph, outcomes, paths, policy, show, time, version}
+use Rattle.pam_words.specs.Asked.{answers_name, any, both_ends, both_filters, code_name, format_name, kind_name, level_name, possible}
 use Rattle.pam_words.specs.Asked.{login, moment, release_form, source}
 use Rattle.pam_words.specs.Candidates.{services_among}
 use Rattle.pam_words.specs.Decisions.{decisions_of}
@@ -158,6 +158,19 @@ time_task rows =
       moment = at;
     })))
 
+-- `policy POLICY...`, where what else is known of a module says what it may return of which nothing else tells
+abbrev pub policy_task : List Row → Result TaskText Refusal
+policy_task rows =
+    or_refuse (source_or_root rows) source (λ from.
+    or_refuse (level_of rows) level_name (λ level.
+    knowledge_of (possible (first_of (codes "facts") rows)) rows >>= λ knowledge.
+    Ok (policy (record {
+      source = from;
+      policies = texts_of (codes "policy") rows;
+      fail_on = level;
+      knowledge = knowledge;
+    }))))
+
 -- `explain [NUMBER]`
 abbrev pub explain_task : List Row → Result TaskText Refusal
 explain_task rows = Ok (explain (first_of (codes "number") rows))
@@ -186,6 +199,7 @@ abbrev pub task_of : Text → List Row → Result TaskText Refusal
 task_of command rows =
     if bytes_eq command (codes "check") then check_task rows
     else if bytes_eq command (codes "compare") then compare_task rows
+    else if bytes_eq command (codes "policy") then policy_task rows
     else stack_task_of command rows
 
 -- THE REQUEST of a command, or its first refusal. A command without SERVICE has the empty service

@@ -20,7 +20,8 @@ use Rattle.pam_words.specs.declared.wanted.Moment.TheVariants.{Civil, Instant}
 use Rattle.pam_words.specs.declared.wanted.PagePart.{PagePart}
 use Rattle.pam_words.specs.declared.wanted.PagePart.TheVariants.{Whole, After, Before}
 use Rattle.pam_words.specs.declared.wanted.Task.{Task}
-use Rattle.pam_words.specs.declared.wanted.Task.TheVariants.{Check, Compare, Show, Decide, Access, Time, Paths, Outcomes, Graph, Explain, Facts, Version}
+use Rattle.pam_words.specs.declared.wanted.Task.TheVariants.{Check, Compare, Show, Decide, Access, Time, Paths, Outcomes, Graph, Policy}
+use Rattle.pam_words.specs.declared.wanted.Task.TheVariants.{Explain, Facts, Version}
 use Rattle.pam_words.specs.declared.wanted.Request.{Request}
 use Rattle.pam_words.specs.declared.wanted.Usage.{Usage}
 use Rattle.pam_words.specs.declared.wanted.Usage.TheVariants as usage
@@ -119,6 +120,12 @@ task_view (Graph source kind format knowledge) = spec.graph (record {
   source = source_view source;
   kind = kind;
   format = format;
+  knowledge = knowledge_view knowledge;
+})
+task_view (Policy source policies fail_on knowledge) = spec.policy (record {
+  source = source_view source;
+  policies = map (λ s. s.now) policies.items;
+  fail_on = fail_on;
   knowledge = knowledge_view knowledge;
 })
 task_view (Explain number) = spec.explain (option_copied number)

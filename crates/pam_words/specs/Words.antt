@@ -9,6 +9,10 @@ use Rattle.clap.specs.declared.builder.value_parser.ValueParser.TheVariants.{Uns
 abbrev pub required_rule : Text → Rule
 required_rule id = record (new_rule id) { value_names = 1; required = true }
 
+-- one word or more
+abbrev pub required_words_rule : Text → Rule
+required_words_rule id = record (required_rule id) { action = Some Append }
+
 -- `--ID VALUE`
 abbrev pub option_rule : Text → Rule
 option_rule id = record (new_rule id) { long = Some id; value_names = 1 }
@@ -162,6 +166,12 @@ outcomes_app = with_knowledge (with_answers (with_json (stack_app (codes "outcom
 unfoldable pub graph_app : App
 graph_app = with_knowledge (with_answers (with_options (stack_app (codes "graph")) (codes "format" ∷ [])))
 
+-- `policy POLICY...`
+unfoldable pub policy_app : App
+policy_app =
+    with_knowledge (with_options (with_json (with_source (with_rule (new_app (codes "policy")) (required_words_rule (codes "policy")))))
+    (codes "fail-on" ∷ codes "facts" ∷ []))
+
 -- `NAME SERVICE`, with the option that names what a login is looked up in, a user and a terminal
 abbrev pub login_app : Text → Rule → App
 login_app name looked_up =
@@ -189,7 +199,7 @@ bare_app = let app = new_app (codes "pamcheck") in record app { top = record app
 
 -- the commands about whole configurations
 abbrev pub with_hosts : App → App
-with_hosts app = with_subcommand (with_subcommand app check_app.top) compare_app.top
+with_hosts app = with_subcommand (with_subcommand (with_subcommand app check_app.top) compare_app.top) policy_app.top
 
 -- the commands about a stack as it is
 abbrev pub with_stacks : App → App

@@ -53,6 +53,13 @@ pub(crate) const SERVICES: ArgRow = ArgRow {
     help: "The services to check, or files for them, as ./sshd; all if left out",
 };
 
+pub(crate) const POLICIES: ArgRow = ArgRow {
+    form: ArgForm::RequiredWords,
+    id: "policy",
+    name: "POLICY",
+    help: "The files of rules, one or more",
+};
+
 pub(crate) const CODES: ArgRow = ArgRow {
     form: ArgForm::Repeated,
     id: "code",
@@ -283,7 +290,7 @@ pub(crate) const SET_BY_NAME: ArgRow = ArgRow {
     form: ArgForm::RepeatedOption,
     id: "set",
     name: "KEY=CODES",
-    help: "The codes that the modules of this name can return, in both configurations; may be repeated",
+    help: "The codes that all modules of this name can return; may be repeated",
 };
 
 pub(crate) const AT: ArgRow = ArgRow {

@@ -14,6 +14,8 @@ pub(crate) enum ArgForm {
     OptionalPositional,
     /// Any number of words, before and after the options.
     Repeated,
+    /// One word or more, before and after the options.
+    RequiredWords,
     /// An option `--ID NAME`.
     Optional,
     /// An option `--ID NAME`, any number of times.
@@ -48,6 +50,7 @@ pub(crate) enum Word {
     ServiceIfNamed,
     KindIfNamed,
     Services,
+    Policies,
     Codes,
     Arguments,
     Number,
@@ -109,6 +112,7 @@ impl Word {
             Word::ServiceIfNamed => rows::SERVICE_IF_NAMED,
             Word::KindIfNamed => rows::KIND_IF_NAMED,
             Word::Services => rows::SERVICES,
+            Word::Policies => rows::POLICIES,
             Word::Codes => rows::CODES,
             Word::Arguments => rows::ARGUMENTS,
             Word::Number => rows::NUMBER,

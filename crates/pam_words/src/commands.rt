@@ -24,6 +24,8 @@ const KIND_IF_NAMED: Argument = Argument::Word(Word::KindIfNamed);
 
 const SERVICES: Argument = Argument::Word(Word::Services);
 
+const POLICIES: Argument = Argument::Word(Word::Policies);
+
 const CODES: Argument = Argument::Word(Word::Codes);
 
 const ARGUMENTS: Argument = Argument::Word(Word::Arguments);
@@ -42,7 +44,7 @@ pub(crate) struct CommandRow {
 // The commands stand in several tables, since what it costs to prove a static grows with the square of its size.
 
 /// The commands about whole configurations.
-pub(crate) static HOSTS: [CommandRow; 2] = [
+pub(crate) static HOSTS: [CommandRow; 3] = [
     CommandRow {
         name: "check",
         about: "Checks all services for faults, and for stacks that let nobody or anybody in",
@@ -68,6 +70,15 @@ pub(crate) static HOSTS: [CommandRow; 2] = [
             Facts,
             Returns,
             SetByName,
+        ],
+    },
+    CommandRow {
+        name: "policy",
+        about: "Proves the rules of policies, or shows the run that breaks them",
+        examples: examples::POLICY,
+        args: &[
+            POLICIES, Dir, VendorDir, Conf, Root, With, Json, FailOn, Facts, Modules, User, Rhost,
+            Tty, Access, Time, Group, Returns, SetByName, At, AtUnix, Zone,
         ],
     },
 ];

@@ -8,6 +8,10 @@ pub(crate) const COMPARE: &str = "Examples, in the folder examples:
   pamcheck compare compare/old compare/new
   pamcheck compare compare/old compare/new login auth";
 
+pub(crate) const POLICY: &str = "Examples, in the folder examples:
+  pamcheck policy policies/mfa.policy --dir policies/mfa/holds
+  pamcheck policy policies/mfa.policy --dir policies/mfa/broken";
+
 pub(crate) const SHOW: &str = "Examples, in the folder examples:
   pamcheck show login auth --dir tree
   pamcheck show sshd account --dir sshd/pam.d";

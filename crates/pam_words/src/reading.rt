@@ -20,6 +20,7 @@ mod decisions;
 mod graph;
 mod knowledge;
 mod paths;
+mod policy;
 mod settings;
 mod show;
 
@@ -298,6 +299,8 @@ fn task<'a>(alloc: Global, command: &str, matches: &ArgMatches<'a>) -> Result<Ta
         checks::check(alloc, matches)
     } else if command == "compare" {
         compare::compare(alloc, matches)
+    } else if command == "policy" {
+        policy::policy(alloc, matches)
     } else {
         stack_task(alloc, command, matches)
     }

@@ -19,7 +19,7 @@ pub enum ConfSource<'a> {
     Root(&'a str),
 }
 
-/// The least level of a finding that makes `check` fail.
+/// The least level of a finding that makes `check` or `policy` fail.
 #[derive(Clone, Copy)]
 pub enum LevelName {
     Error,
@@ -236,6 +236,15 @@ pub enum Task<'a> {
         format: GraphFormat,
         knowledge: KnowledgeSource<'a>,
     },
+    /// Says whether the rules of policies hold, and names findings of which level make it fail.
+    Policy {
+        source: ConfSource<'a>,
+        /// The names of the policy files, one or more, in the order in which they are given.
+        policies: Vec<&'a str>,
+        fail_on: LevelName,
+        /// Its answers are `Answers::Possible`.
+        knowledge: KnowledgeSource<'a>,
+    },
     /// Says what a fault or finding means, by its number, or lists all of them.
     Explain(Option<&'a str>),
     /// Lists what is known of modules.
@@ -276,7 +285,7 @@ pub enum Usage {
     /// U1 too: a word is not UTF-8. `request` never returns it; its caller does, while collecting the words.
     #[error("a word is not UTF-8")]
     NotUtf8,
-    /// U2: not exactly one source is given, or `--vendor-dir` without `--dir`. `check` and `compare` need none, and
+    /// U2: not exactly one source is given, or `--vendor-dir` without `--dir`. `check`, `policy` and `compare` need none, and
     /// `compare` takes one form of its sources.
     #[error("not exactly one of --dir, --conf and --root, or --vendor-dir without --dir")]
     Source,
@@ -302,7 +311,7 @@ pub enum Usage {
     #[error("a table without a user")]
     Login,
     /// U6: not exactly one form of the moment is given, `--zone` is given without `--at-unix`, or the seconds are not
-    /// 1 to 12 digits. `paths`, `outcomes` and `graph` need a moment only for a time table.
+    /// 1 to 12 digits. `paths`, `outcomes`, `graph` and `policy` need a moment only for a time table.
     #[error("not exactly one moment")]
     Moment,
     /// U8: both `--after` and `--before` are given.

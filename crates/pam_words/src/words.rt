@@ -31,6 +31,7 @@ fn arg<'a>(alloc: Global, row: ArgRow) -> Arg<'a>
         ArgForm::Positional => arg.required(true),
         ArgForm::OptionalPositional => arg,
         ArgForm::Repeated => arg.action(ArgAction::Append),
+        ArgForm::RequiredWords => arg.required(true).action(ArgAction::Append),
         ArgForm::Optional => arg.long(row.id),
         ArgForm::RepeatedOption => arg.long(row.id).action(ArgAction::Append),
         ArgForm::Required => arg.long(row.id).required(true),

@@ -20,8 +20,9 @@ use Rattle.pam_words.specs.declared.wanted.ConfSource.TheVariants.{Root}
 use Rattle.pam_words.specs.declared.wanted.KnowledgeSource.{KnowledgeSource}
 use Rattle.pam_words.specs.declared.wanted.LevelName.{LevelName}
 use Rattle.pam_words.specs.declared.wanted.Login.{Login}
-use Rattle.pam_words.specs.declared.wanted.Task.TheVariants.{Check, Compare, Access}
+use Rattle.pam_words.specs.declared.wanted.Task.TheVariants.{Check, Compare, Access, Policy}
 use Rattle.pam_words.specs.declared.wanted.CheckFiles.{CheckFiles}
+use Rattle.pam_cli.specs.AccessTables.{AreContents}
 use Rattle.pam_cli.specs.Links.{AreLinks}
 use Rattle.pam_cli.specs.Sources.{IsInSource, IsUnread}
 use Rattle.pam_cli.specs.System.{Told}
@@ -67,14 +68,14 @@ IsGivenReading told candidates files vendor_start source named (Ok given) =
     × AreLinks told candidates source files vendor_start given.outside.items
 IsGivenReading told candidates files vendor_start source named (Err error) = IsUnread (λ name. IsInSource source name ⊎ IsOfCheck named name) error
 
--- what is known besides the configuration, for each task about paths
+-- what is known besides the configuration, without policies
 abbrev pub IsKnownReading : Told → ConfSource → KnowledgeSource → Result KnowledgeInputs InputError → Type 0
 IsKnownReading told source named (Ok given) =
     (beq (is_some given.facts) (is_some (facts_named named.answers))
     && (beq (is_some given.returns) (is_some named.returns) && has_named_tables named.tables given.tables) ≡ true)
     × AreKnownTables told source named given.tables × IsFile told (option_copied (facts_named named.answers)) given.facts
     × IsFile told (option_copied named.returns) given.returns
-    × HasModules source named.modules.items given.there
+    × HasModules source named.modules.items given.there × AreContents told [] given.policies
 IsKnownReading told source named (Err error) = IsUnread (IsOfKnowledge source named) error
 
 -- what is read for each `access` of these files
@@ -85,5 +86,10 @@ IsAccessReading told tables groups result =
 
 -- what is read for each task about this source with what is known of answers
 abbrev pub IsKnowledgeReading : Told → List (Text × Text) → ConfSource → KnowledgeSource → Result Inputs InputError → Type 0
-IsKnowledgeReading told candidates source named (Ok given) = (fits_knowledge named given ≡ true) × HasKnowledge told candidates source named given
+IsKnowledgeReading told candidates source named (Ok given) = (fits_knowledge named given ≡ true) × HasKnowledge told candidates source named [] given
 IsKnowledgeReading told candidates source named (Err error) = IsUnread (IsOfKnowledge source named) error
+
+-- what is read for each `policy` of this source and these files
+abbrev pub IsPolicyReading : Told → List (Text × Text) → ConfSource → KnowledgeSource → List (Bor Text) → Result Inputs InputError → Type 0
+IsPolicyReading told candidates source named policies result =
+    (names : Vec (Bor Text) Global) (fail_on : LevelName) → policies ≡ names.items → IsReading told candidates (Policy source names fail_on named) result

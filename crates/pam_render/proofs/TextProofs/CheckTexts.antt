@@ -5,10 +5,9 @@ use Rattle.std.specs.Prelude.{decimal}
 use Rattle.pam_report.specs.TablePaths.{level_of_table_problem, table_problem_name}
 use Rattle.pam_findings.specs.declared.tables.problem.TableFinding.{TableFinding}
 use Rattle.pam_text.proofs.TextSteps.{unequal}
-use Rattle.pam_render.specs.text.Check.{counted, last_line, levels_text}
+use Rattle.pam_render.specs.text.Check.{checked_line, counted, levels_text}
 use Rattle.pam_render.specs.sentences.Shown.{shown_name}
 use Rattle.pam_render.specs.text.Check.{table_heading, unused_line}
-use Rattle.pam_render.specs.parts.Check.{stacks_of}
 use Rattle.pam_render.specs.declared.parts.check.Counts.{Counts}
 use Rattle.pam_render.specs.sentences.Sentences as say
 
@@ -19,11 +18,11 @@ pub counted-many : (count : ℕ) (name bytes : List ℕ) → (count ≡ 1 → �
     → concat (decimal count ∷ codes " " ∷ bytes ∷ []) ++ codes "s" ≡ counted count name
 counted-many count name bytes h e = rw (e, unequal count 1 h) (simp (append_assoc, append-nil))
 
-pub last_line-is : (services stacks : ℕ) (counts : Counts) → stacks ≡ stacks_of services
-    → codes "checked " ++ counted services (codes "service") ++ codes ", " ++ counted stacks (codes "stack") ++ codes ": " ++ levels_text counts
-    ++ codes "\n" ≡ last_line services counts
-unfolding last_line
-last_line-is services stacks counts e = rw e refl
+pub checked_line-is : (count : ℕ) (name : List ℕ) (stacks : ℕ) (counts : Counts)
+    → codes "checked " ++ counted count name ++ codes ", " ++ counted stacks (codes "stack") ++ codes ": " ++ levels_text counts ++ codes "\n"
+    ≡ checked_line count name stacks counts
+unfolding checked_line
+checked_line-is count name stacks counts = refl
 
 -- LINES OF THE ACCEPT FILE
 

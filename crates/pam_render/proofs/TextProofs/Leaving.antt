@@ -28,7 +28,8 @@ use Rattle.pam_report.specs.declared.report.replies.Reply as declared
 use Rattle.pam_words.specs.declared.wanted.OutputForm.TheVariants.{Json}
 use Rattle.pam_words.specs.declared.wanted.ReleaseName.{ReleaseName}
 use Rattle.pam_words.specs.declared.wanted.Task.{Task}
-use Rattle.pam_words.specs.declared.wanted.Task.TheVariants.{Show, Decide, Access, Time, Paths, Outcomes, Graph, Check, Compare, Explain, Facts, Version}
+use Rattle.pam_words.specs.declared.wanted.Task.TheVariants.{Show, Decide, Access, Time, Paths, Outcomes, Graph, Check, Compare, Policy, Explain}
+use Rattle.pam_words.specs.declared.wanted.Task.TheVariants.{Facts, Version}
 use Rattle.pam_render.specs.text.Leaves.{LeavesFault, LeavesSome}
 use Rattle.pam_render.specs.text.Text.{IsJsonOrText, IsText as IsPlainText, IsTextIn}
 
@@ -46,6 +47,7 @@ answers-by One Other go service candidates (Outcomes source kind knowledge) file
 answers-by One Other go service candidates (Graph source kind format knowledge) files inputs h = (h.0, h.1, go _ h.2)
 answers-by One Other go service candidates (Check source services fail_on named) files inputs h = go _ h
 answers-by One Other go service candidates (Compare old new named kind given) files inputs h = go _ h
+answers-by One Other go service candidates (Policy source names fail_on knowledge) files inputs h = (h.0, h.1, go _ h.2)
 answers-by One Other go service candidates (Explain number) files inputs h = go _ h
 answers-by One Other go service candidates Facts files inputs h = go _ h
 answers-by One Other go service candidates Version files inputs h = go _ h
@@ -65,6 +67,7 @@ module _ {W : Type 0} (contents : W → Option (List ℕ)) (IsText : Reply → R
   refused faults.NoSuchService IsAnswer same h = (same, h)
   refused faults.UnusedCandidate IsAnswer same h = (same, h)
   refused (faults.Facts e) IsAnswer same h = (same, h)
+  refused (faults.Policy e) IsAnswer same h = (same, h)
   refused (faults.Accept e) IsAnswer same h = (same, h)
   refused (faults.Moment e) IsAnswer same h = (same, h)
   refused (faults.Table e) IsAnswer same h = (same, h)
@@ -90,12 +93,13 @@ module _ {W : Type 0} (contents : W → Option (List ℕ)) (IsText : Reply → R
   unprinted faults.NoSuchService reply h IsAnswer is = absurd h
   unprinted faults.UnusedCandidate reply h IsAnswer is = absurd h
   unprinted (faults.Facts e) reply h IsAnswer is = absurd h
+  unprinted (faults.Policy e) reply h IsAnswer is = absurd h
   unprinted (faults.Accept e) reply h IsAnswer is = absurd h
   unprinted (faults.Moment e) reply h IsAnswer is = absurd h
   unprinted (faults.Table e) reply h IsAnswer is = absurd h
   unprinted (faults.Time e) reply h IsAnswer is = absurd h
 
-  -- if it is for want of memory, it is a page, a drawing or a check
+  -- if it is for want of memory, it is a page, a drawing, a check or policies
   pub unprinted-wants : (wants : Wants) (fault : Fault) (reply : Reply) → PrintsBy contents IsText old new (Err fault) reply
       → (wants_memory reply ≡ true → wants.work ≡ true) → IsWanting wants fault
   unprinted-wants wants faults.Device reply h works = tt
@@ -110,6 +114,7 @@ module _ {W : Type 0} (contents : W → Option (List ℕ)) (IsText : Reply → R
   unprinted-wants wants faults.NoSuchService reply h works = absurd h
   unprinted-wants wants faults.UnusedCandidate reply h works = absurd h
   unprinted-wants wants (faults.Facts e) reply h works = absurd h
+  unprinted-wants wants (faults.Policy e) reply h works = absurd h
   unprinted-wants wants (faults.Accept e) reply h works = absurd h
   unprinted-wants wants (faults.Moment e) reply h works = absurd h
   unprinted-wants wants (faults.Table e) reply h works = absurd h
@@ -164,7 +169,7 @@ no_explained (Some number) = no_explanation (explanation_of number)
 not_both : true ≡ false → ⊥
 not_both both = cc
 
--- a page, a drawing or a check is the reply of a task that may want memory for what is made
+-- a page, a drawing, a check and policies are the reply of a task that may want memory for what is made
 pub page-wants : (service : List ℕ) (candidates : List CandidateText) (task : Task) (files : Folder) (inputs : Inputs) (reply : declared.Reply)
     → AnswersBy (Finds (Ok reply)) service candidates task files inputs → wants_memory (reply_view reply) ≡ true → (wants_of task inputs).work ≡ true
 unfolding AnswersBy
@@ -178,6 +183,7 @@ page-wants service candidates (Outcomes source kind knowledge) files inputs repl
 page-wants service candidates (Graph source kind format knowledge) files inputs reply h page = refl
 page-wants service candidates (Check source services fail_on named) files inputs reply h page = refl
 page-wants service candidates (Compare old new named kind given) files inputs reply h page = refl
+page-wants service candidates (Policy source names fail_on knowledge) files inputs reply h page = refl
 page-wants service candidates (Explain number) files inputs reply h page =
     absurd (not_both (sym page ∙ ap page_in (sym h) ∙ no_explained (option_copied number)))
 page-wants service candidates Facts files inputs reply h page = absurd (not_both (sym page ∙ ap page_in (sym h)))

@@ -3,13 +3,14 @@ use Rattle.std.specs.Prelude.{◌≡◌, ℕ, Bool, true, false, List, Option, N
 use Rattle.pam_codes.specs.Out.{Out}
 use Rattle.pam_render.specs.parts.Prints.{PrintsBy}
 use Rattle.pam_paths.specs.declared.cursor.CursorError.{CursorError}
-use Rattle.pam_report.specs.Reply.{Reply, Stack, Run, Access, Time, Outcomes, Page, Check, Compared}
+use Rattle.pam_report.specs.Reply.{Reply, Stack, Run, Access, Time, Outcomes, Page, Check, Compared, Policy}
 use Rattle.pam_report.specs.declared.fault.Fault.{Fault}
 use Rattle.pam_render.specs.json_text.Check.{check_json}
 use Rattle.pam_render.specs.json_text.Compare.{compare_json}
 use Rattle.pam_render.specs.json_text.Decide.{run_json}
 use Rattle.pam_render.specs.json_text.Outcomes.{outcomes_json}
 use Rattle.pam_render.specs.json_text.Paths.{IsPageJson}
+use Rattle.pam_render.specs.json_text.Policy.{policy_json}
 use Rattle.pam_render.specs.json_text.Show.{stack_json}
 use Rattle.pam_render.specs.json_text.Tables.{access_json, time_json}
 
@@ -23,6 +24,7 @@ IsJson (Outcomes outcomes) text = text ≡ Ok (outcomes_json outcomes)
 IsJson (Page page) text = IsPageJson page text
 IsJson (Check found) text = text ≡ Ok (check_json found)
 IsJson (Compared changes) text = text ≡ Ok (compare_json changes)
+IsJson (Policy policies) text = text ≡ Ok (policy_json policies)
 IsJson reply text = ⊥
 
 -- the replies that have JSON
@@ -35,6 +37,7 @@ has_json (Outcomes outcomes) = true
 has_json (Page page) = true
 has_json (Check found) = true
 has_json (Compared changes) = true
+has_json (Policy policies) = true
 has_json reply = false
 
 -- what is written of a reply that has JSON is that; of others nothing is written

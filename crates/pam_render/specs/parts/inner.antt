@@ -1,2 +1,3 @@
 -- What no public contract cites.
 pub mod ModulePaths
+pub mod Told

@@ -152,11 +152,13 @@ levels_text counts =
     counted counts.errors (codes "error") ++ codes ", " ++ counted counts.warnings (codes "warning") ++ codes ", "
     ++ counted counts.notes (codes "note")
 
--- `checked SERVICES, STACKS: ERRORS, WARNINGS, NOTES`
-unfoldable pub last_line : ℕ → Counts → List ℕ
-last_line services counts =
-    codes "checked " ++ counted services (codes "service") ++ codes ", " ++ counted (stacks_of services) (codes "stack") ++ codes ": "
-    ++ levels_text counts ++ codes "\n"
+-- `checked N NAMES, STACKS: ERRORS, WARNINGS, NOTES`
+unfoldable pub checked_line : ℕ → List ℕ → ℕ → Counts → List ℕ
+checked_line count name stacks counts =
+    codes "checked " ++ counted count name ++ codes ", " ++ counted stacks (codes "stack") ++ codes ": " ++ levels_text counts ++ codes "\n"
+
+abbrev pub last_line : ℕ → Counts → List ℕ
+last_line services counts = checked_line services (codes "service") (stacks_of services) counts
 
 -- `FILE:LINE: warning: S8 NothingAccepted: SENTENCE`
 unfoldable pub unused_line : List ℕ → ℕ → List ℕ

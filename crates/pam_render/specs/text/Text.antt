@@ -1,7 +1,8 @@
 -- The text of a reply.
 use Rattle.std.specs.Prelude.{◌≡◌, ℕ, Bool, true, false, List, Result, Ok}
 use Rattle.pam_paths.specs.declared.cursor.CursorError.{CursorError}
-use Rattle.pam_report.specs.Reply.{Reply, Stack, Released, Run, Access, Time, Outcomes, Drawing, Page, Check, Compared, Explained, Explanations, Facts, Version}
+use Rattle.pam_report.specs.Reply.{Reply, Stack, Released, Run, Access, Time, Outcomes, Drawing, Page, Check, Compared, Policy, Explained, Explanations}
+use Rattle.pam_report.specs.Reply.{Facts, Version}
 use Rattle.pam_facts.specs.Table.{table_text}
 use Rattle.pam_render.specs.json_text.Text.{IsJson, has_json}
 use Rattle.pam_words.specs.declared.wanted.OutputForm.{OutputForm}
@@ -14,6 +15,7 @@ use Rattle.pam_render.specs.text.Drawing.{IsDrawingText}
 use Rattle.pam_render.specs.text.Explain.{explanation_text, explanations_text}
 use Rattle.pam_render.specs.text.Outcomes.{outcomes_text}
 use Rattle.pam_render.specs.text.Page.{IsPageText}
+use Rattle.pam_render.specs.text.Policy.{policy_text}
 use Rattle.pam_render.specs.text.Released.{released_text}
 use Rattle.pam_render.specs.text.Show.{stack_text}
 use Rattle.pam_render.specs.text.Tables.{access_text, time_text}
@@ -30,6 +32,7 @@ IsText (Drawing drawing) text = IsDrawingText drawing text
 IsText (Page page) text = IsPageText page text
 IsText (Check found) text = text ≡ Ok (check_text found)
 IsText (Compared changes) text = text ≡ Ok (compare_text changes)
+IsText (Policy policies) text = text ≡ Ok (policy_text policies)
 IsText (Explained explanation) text = text ≡ Ok (explanation_text explanation)
 IsText Explanations text = text ≡ Ok explanations_text
 IsText Facts text = text ≡ Ok table_text

@@ -65,7 +65,8 @@ fn put_byte<W: Write>(byte: u8, out: &mut Out<W>) -> Result<(), Device>
     out.put(&[byte])
 }
 
-fn put_escaped<W: Write>(text: &[u8], out: &mut Out<W>) -> Result<(), Device>
+/// Writes a part of a text, which is UTF-8, as it stands in a string.
+pub(crate) fn put_escaped<W: Write>(text: &[u8], out: &mut Out<W>) -> Result<(), Device>
     ensures { Writes W.contents out.old out.new result (escape text.now) }
 {
     for byte in text {
@@ -91,7 +92,8 @@ fn put_chunk<W: Write>(valid: &[u8], invalid: &[u8], out: &mut Out<W>) -> Result
     put_invalid(invalid, out)
 }
 
-fn put_chunks<W: Write>(bytes: &[u8], out: &mut Out<W>) -> Result<(), Device>
+/// Writes bytes as they stand in a string, with U+FFFD for what is no UTF-8.
+pub(crate) fn put_chunks<W: Write>(bytes: &[u8], out: &mut Out<W>) -> Result<(), Device>
     ensures { Writes W.contents out.old out.new result (escape (utf8_lossy bytes.now)) }
 {
     for chunk in bytes.utf8_chunks() {

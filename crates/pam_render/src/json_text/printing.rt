@@ -8,7 +8,7 @@ use crate::json_text::form::AsJson;
 use crate::json_text::outcomes::write_outcomes;
 use crate::json_text::paths::PageJson;
 use crate::json_text::tables::{write_access, write_time};
-use crate::parts::{with_write_fault, write_check, write_compared, write_stack};
+use crate::parts::{with_write_fault, write_check, write_compared, write_policy, write_stack};
 use pam_codes::Out;
 use pam_report::{Fault, Reply};
 use std::alloc::Global;
@@ -16,7 +16,8 @@ use std::io::Write;
 
 /// Writes the JSON of a reply, and flushes once, at its end. Returns `None`, and writes nothing, for a reply that has no JSON.
 ///
-/// For a page of paths, a cursor that is refused is found before the first byte is written; for a page and a check, so is want of memory.
+/// For a page of paths, a cursor that is refused is found before the first byte is written; for a page, a check and policies, so is
+/// want of memory.
 pub fn print_if_any<W: Write>(
     alloc: Global,
     reply: &Reply<'_>,
@@ -33,6 +34,7 @@ pub fn print_if_any<W: Write>(
         Reply::Paths(page) => Some(PageJson { page }.write(alloc, out)),
         Reply::Check(check) => Some(write_check(&AsJson, alloc, check, out)),
         Reply::Compared(compared) => Some(with_write_fault(write_compared(&AsJson, compared, out))),
+        Reply::Policy(policies) => Some(write_policy(&AsJson, alloc, policies, out)),
         _ => None,
     }
 }

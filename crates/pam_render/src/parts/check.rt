@@ -31,7 +31,7 @@ pub struct Names<'a> {
 }
 
 /// Returns the texts of a list, by position.
-fn slices(alloc: Global, texts: &Texts) -> Result<Vec<&[u8]>, AllocError>
+pub(super) fn slices(alloc: Global, texts: &Texts) -> Result<Vec<&[u8]>, AllocError>
     ensures { IfOk result (λ v. map (λ text. text.now) v.items ≡ texts.now) }
 {
     texts.iter().collect(alloc)
@@ -103,7 +103,8 @@ pub fn word_at(words: &[Option<Misspelled>], position: usize) -> Option<&Misspel
     }
 }
 
-fn is_level(level: Level, other: Level) -> bool
+/// Whether a level is another.
+pub(super) fn is_level(level: Level, other: Level) -> bool
     ensures { result ≡ is_level level other }
 {
     level == other

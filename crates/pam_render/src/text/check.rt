@@ -1,7 +1,7 @@
 //! The text of `check`: a line for each finding, and a last line with their numbers.
 
 ghost use Rattle.pam_codes.specs.Out.{Writes};
-ghost use Rattle.pam_render.specs.text.Check.{counted, last_line, levels_text, unused_line};
+ghost use Rattle.pam_render.specs.text.Check.{checked_line, counted, last_line, levels_text, unused_line};
 
 mod finding;
 mod met;
@@ -46,18 +46,31 @@ fn put_levels<W: Write>(counts: Counts, out: &mut Out<W>) -> Result<(), Device>
     put_counted(counts.notes, "note", out)
 }
 
-/// Writes the last line.
-#[tactic(auto, unfolding(crate::specs::text::Check::last_line))]
-fn put_last_line<W: Write>(services: usize, counts: Counts, out: &mut Out<W>) -> Result<(), Device>
-    ensures { Writes W.contents out.old out.new result (last_line services counts) }
+/// Writes how many were checked of what has this name, the number of stacks, and those of findings.
+#[tactic(auto, unfolding(crate::specs::text::Check::checked_line))]
+pub(crate) fn put_checked<W: Write>(
+    count: usize,
+    name: &str,
+    stacks: usize,
+    counts: Counts,
+    out: &mut Out<W>,
+) -> Result<(), Device>
+    ensures { Writes W.contents out.old out.new result (checked_line count name.now stacks counts) }
 {
     out.put(b"checked ")?;
-    put_counted(services, "service", out)?;
+    put_counted(count, name, out)?;
     out.put(b", ")?;
-    put_counted(stacks_of(services), "stack", out)?;
+    put_counted(stacks, "stack", out)?;
     out.put(b": ")?;
     put_levels(counts, out)?;
     out.put(b"\n")
+}
+
+/// Writes the last line.
+fn put_last_line<W: Write>(services: usize, counts: Counts, out: &mut Out<W>) -> Result<(), Device>
+    ensures { Writes W.contents out.old out.new result (last_line services counts) }
+{
+    put_checked(services, "service", stacks_of(services), counts, out)
 }
 
 /// Writes S8 of a line of the accept file.

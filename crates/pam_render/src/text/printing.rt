@@ -10,7 +10,7 @@ ghost use Rattle.pam_words.specs.Wanted.{candidate_view};
 ghost use Rattle.pam_words.specs.declared.wanted.OutputForm.TheVariants.{Json};
 
 use crate::json_text::print_if_any;
-use crate::parts::{with_write_fault, write_check, write_compared, write_stack};
+use crate::parts::{with_write_fault, write_check, write_compared, write_policy, write_stack};
 use crate::text::about::{write_known, write_version};
 use crate::text::decide::write_run;
 use crate::text::drawing::write_drawing;
@@ -28,8 +28,8 @@ use std::io::Write;
 
 /// Writes the text of a reply in a form, and flushes once, at its end. A reply that has no JSON is written as text.
 ///
-/// For a page of paths, a cursor that is refused is found before the first byte is written; for a page, a drawing and a check, so
-/// is want of memory. Nothing is allocated after it.
+/// For a page of paths, a cursor that is refused is found before the first byte is written; for a page, a drawing, a check and
+/// policies, so is want of memory. Nothing is allocated after it.
 pub fn print<W: Write>(
     alloc: Global,
     reply: &Reply<'_>,
@@ -69,6 +69,7 @@ fn print_text<W: Write>(alloc: Global, reply: &Reply<'_>, out: &mut Out<W>) -> R
         Reply::Outcomes(outcomes) => with_write_fault(write_outcomes(outcomes, out)),
         Reply::Check(check) => write_check(&AsText, alloc, check, out),
         Reply::Compared(compared) => with_write_fault(write_compared(&AsText, compared, out)),
+        Reply::Policy(policies) => write_policy(&AsText, alloc, policies, out),
         Reply::Explained(explanation) => with_write_fault(write_explanation(explanation, out)),
         Reply::Explanations => with_write_fault(write_explanations(out)),
         Reply::Facts => with_write_fault(write_known(out)),

@@ -11,6 +11,7 @@ ghost use Rattle.pam_report.specs.Refusal as spec;
 ghost use Rattle.pam_report.specs.Services.{has_service};
 ghost use Rattle.pam_words.specs.Wanted.{candidate_view};
 
+use super::policies::line_of_policy;
 use super::table::{candidate_row, service_row};
 use super::{Fault, fault_text, line};
 use crate::candidates::first_unused;
@@ -20,7 +21,7 @@ use pam_codes::Piece;
 use pam_conf::{Files, Form};
 use pam_spelling::nearest;
 use pam_text::Texts;
-use pam_words::{ConfSource, Request, Task};
+use pam_words::{Candidate, ConfSource, Request, Task};
 use std::alloc::{AllocError, Global};
 
 /// What is said of the nearest name, if there is one.
@@ -291,6 +292,22 @@ fn unused_line(alloc: Global, files: &Files, name: &[u8]) -> Result<Vec<u8>, All
     )
 }
 
+/// The line about the first of these candidates that none of these services reads.
+fn unused_line_among(
+    alloc: Global,
+    files: &Files,
+    services: &Texts,
+    candidates: &[Candidate<'_>],
+) -> Result<Vec<u8>, AllocError>
+    ensures { IfOk result (λ text. text.items ≡ line_of row_of_candidate
+        (spec.unused_among (map candidate_view candidates.now) services.now files.now)) }
+{
+    match first_unused(alloc, files, services, candidates)? {
+        Some(name) => unused_line(alloc, files, name),
+        None => line(alloc, candidate_row(), &[]),
+    }
+}
+
 /// The line about the first candidate of a request that no service reads.
 fn first_unused_line(
     alloc: Global,
@@ -300,12 +317,14 @@ fn first_unused_line(
     ensures { IfOk result (λ text. text.items ≡ line_of row_of_candidate
         (spec.unused_of (map candidate_view request.now.candidates.items) request.now.task files.now)) }
 {
-    let Task::Check { services, .. } = &request.task else {
-        return line(alloc, candidate_row(), &[]);
-    };
-    match first_unused(alloc, files, services, &request.candidates)? {
-        Some(name) => unused_line(alloc, files, name),
-        None => line(alloc, candidate_row(), &[]),
+    match &request.task {
+        Task::Check { services, .. } => {
+            unused_line_among(alloc, files, services, &request.candidates)
+        }
+        Task::Policy { .. } => {
+            unused_line_among(alloc, files, &Texts::new(alloc), &request.candidates)
+        }
+        _ => line(alloc, candidate_row(), &[]),
     }
 }
 
@@ -323,12 +342,13 @@ fn line_with(
     match fault {
         Fault::NoSuchService => unknown_line(alloc, request, files, inputs),
         Fault::UnusedCandidate => first_unused_line(alloc, request, files),
+        Fault::Policy(error) => line_of_policy(alloc, request, error),
         _ => fault_text(alloc, fault, files),
     }
 }
 
 /// Returns the line of a fault of a request: `pamcheck: NUMBER NAME`, with its place if it has one, and what is said of a name that is
-/// no service, or of a candidate that no service reads.
+/// no service, or of a candidate that no service reads. A policy is named as the request names it.
 pub fn refusal_text(
     alloc: Global,
     fault: &Fault,

@@ -11,6 +11,7 @@ use pam_conf::FaultKind;
 use pam_facts::FactsFault;
 use pam_findings::accepted::AcceptError;
 use pam_paths::CursorError;
+use pam_policy::text::PolicyFault;
 use pam_tables::times::{MomentError, TimeFault};
 use pam_tables::{Table, TableFault};
 use pam_text::SourceFault;
@@ -185,6 +186,27 @@ pub(super) fn facts_row(fault: FactsFault) -> Row
         FactsFault::NulByte => Row::of("TE10 NulByte", BAD_TABLE),
         FactsFault::Memory => Row::of("TE11 Memory", NO_MEMORY),
         FactsFault::TooLong => Row::of("TE12 TableTooLong", BAD_TABLE),
+    }
+}
+
+#[tactic(auto, unfolding(crate::specs::FaultTable::policy_row))]
+pub(super) fn policy_row(fault: PolicyFault) -> Row
+    ensures { row_view result ≡ spec.policy_row fault }
+{
+    match fault {
+        PolicyFault::MissingField => Row::of("TE1 MissingField", BAD_TABLE),
+        PolicyFault::NulByte => Row::of("TE10 NulByte", BAD_TABLE),
+        PolicyFault::Memory => Row::of("TE11 Memory", NO_MEMORY),
+        PolicyFault::TableTooLong => Row::of("TE12 TableTooLong", BAD_TABLE),
+        PolicyFault::BadCode => Row::of("TE13 BadCode", BAD_TABLE),
+        PolicyFault::BadServices => Row::of("TE17 BadServices", BAD_TABLE),
+        PolicyFault::BadKinds => Row::of("TE18 BadKinds", BAD_TABLE),
+        PolicyFault::BadVerb => Row::of("TE19 BadVerb", BAD_TABLE),
+        PolicyFault::BadEvent => Row::of("TE20 BadEvent", BAD_TABLE),
+        PolicyFault::BadList => Row::of("TE21 BadList", BAD_TABLE),
+        PolicyFault::NoAnswers => Row::of("TE22 NoAnswers", BAD_TABLE),
+        PolicyFault::ExtraWord => Row::of("TE23 ExtraWord", BAD_TABLE),
+        PolicyFault::TooManyRules => Row::of("TE24 TooManyRules", BAD_TABLE),
     }
 }
 

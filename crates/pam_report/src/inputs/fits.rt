@@ -10,7 +10,7 @@ use pam_words::{CheckFiles, CompareFiles, KnowledgeSource, Request, TableNames, 
 
 impl Inputs {
     ghost use Rattle.std.specs.Prelude.{◌≡◌};
-    ghost use Rattle.pam_report.specs.Inputs.{fits_knowledge, fits_task};
+    ghost use Rattle.pam_report.specs.Inputs.{fits_knowledge, fits_task, has_policies};
 
     /// Whether these are the contents of exactly the files that the request names, each with its path for `check`. Tables
     /// may be given that are not named: those of a root.
@@ -43,10 +43,28 @@ impl Inputs {
             (inputs, Task::Paths { knowledge, .. }) => inputs.fits_knowledge(knowledge),
             (inputs, Task::Outcomes { knowledge, .. }) => inputs.fits_knowledge(knowledge),
             (inputs, Task::Graph { knowledge, .. }) => inputs.fits_knowledge(knowledge),
+            (
+                inputs,
+                Task::Policy {
+                    policies,
+                    knowledge,
+                    ..
+                },
+            ) => { inputs.fits_knowledge(knowledge) && inputs.has_policies(policies.len()) }
             (Inputs::Nothing, Task::Explain(_)) => true,
             (Inputs::Nothing, Task::Facts) => true,
             (Inputs::Nothing, Task::Version) => true,
             _ => false,
+        }
+    }
+
+    /// Whether these are the contents of so many policies.
+    fn has_policies(&self, count: usize) -> bool
+        ensures { result ≡ has_policies count self.now }
+    {
+        match self {
+            Inputs::Paths { given, .. } => given.policies.len() == count,
+            _ => count == 0,
         }
     }
 

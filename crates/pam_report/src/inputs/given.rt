@@ -13,7 +13,7 @@ impl Inputs {
     ghost use Rattle.std.specs.Prelude.{◌≡◌, [], option_map};
     ghost use Rattle.std.specs.Option.{option_map_or};
     ghost use Rattle.pam_report.specs.Inputs.{accept_given, access_given, facts_given, files_given};
-    ghost use Rattle.pam_report.specs.Inputs.{group_file, host_tables_given, new_given, old_given, outside_given, paths_given, returns_given};
+    ghost use Rattle.pam_report.specs.Inputs.{group_file, host_tables_given, new_given, old_given, outside_given, paths_given, policies_given, returns_given};
     ghost use Rattle.pam_report.specs.Inputs.{table_paths_given, there_given, time_given, vendor_start_given};
     ghost use Rattle.pam_report.specs.TablePaths.{table_paths_view};
     ghost use Rattle.pam_findings.specs.tables.Tables.{tables_view as host_tables_view};
@@ -158,6 +158,16 @@ impl Inputs {
     {
         match self {
             Inputs::Host { paths, .. } => Some(paths),
+            _ => None,
+        }
+    }
+
+    /// Returns the policies, in their order.
+    pub fn policies(&self) -> Option<&Texts>
+        ensures { option_map_or (λ policies. policies.now) result [] ≡ policies_given self.now }
+    {
+        match self {
+            Inputs::Paths { given, .. } => Some(&given.policies),
             _ => None,
         }
     }

@@ -67,7 +67,7 @@ pub(super) struct CheckRequest<'x, 'a> {
 }
 
 /// Whether a finding of this level makes the status a refusal.
-fn counts(fail_on: LevelName, level: Level) -> bool
+pub(super) fn counts(fail_on: LevelName, level: Level) -> bool
     ensures { result ≡ counts fail_on level }
 {
     match fail_on {

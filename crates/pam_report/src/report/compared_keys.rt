@@ -83,8 +83,9 @@ fn all_name_modules(
     Ok(true)
 }
 
-/// Whether each setting names a module of either configuration. Reads the files only if there is a setting.
-pub(super) fn are_keys(
+/// Whether each setting names a module of either configuration, which may be the same one twice. Reads the files only if there is a
+/// setting.
+pub(crate) fn are_keys(
     alloc: Global,
     old: &Files,
     new: &Files,

@@ -11,6 +11,7 @@ use super::decide::RunReply;
 use super::graph::GraphReply;
 use super::outcomes::OutcomesReply;
 use super::paths::PathsPage;
+use super::policy::PolicyReply;
 use super::released::ReleasedReply;
 use super::show::StackReply;
 use pam_dispatch::Decision;
@@ -50,6 +51,8 @@ pub enum Reply<'a> {
     Check(CheckReply<'a>),
     /// Of `compare`.
     Compared(CompareReply<'a>),
+    /// Of `policy`.
+    Policy(PolicyReply<'a>),
     /// Of `explain` with a number.
     Explained(Explanation),
     /// Of `explain` without one: a list of all explanations.
@@ -62,8 +65,8 @@ pub enum Reply<'a> {
 
 impl Reply<'_> {
     /// Returns how the answer ended: `Success` for a decision of `success`, a login that is granted, a check that finds nothing
-    /// that counts, a comparison without a change, and any answer of the other commands; `Faulty` for a comparison with a stack
-    /// that is refused; else `Refusal`.
+    /// that counts, a comparison without a change, policies of which nothing is found that counts, and any answer of the other
+    /// commands; `Faulty` for a comparison with a stack that is refused; else `Refusal`.
     pub fn status(&self) -> Status
         ensures { result ≡ status_of (reply_view self.now) }
     {
@@ -73,6 +76,7 @@ impl Reply<'_> {
             Reply::Time(answer) => status_of_time(*answer),
             Reply::Check(check) => check.status(),
             Reply::Compared(compared) => compared.status(),
+            Reply::Policy(policies) => policies.status(),
             Reply::Stack(_) | Reply::Released(_) | Reply::Paths(_) => Status::Success,
             Reply::Outcomes(_) | Reply::Graph(_) => Status::Success,
             Reply::Explained(_) | Reply::Explanations | Reply::Facts | Reply::Version =>

@@ -56,12 +56,12 @@ fn look_up(
     }
 }
 
-fn answer_login(
+fn answer_login<'a>(
     alloc: Global,
     login: &Login<'_>,
     moment: &DateTime,
     bytes: &[u8],
-) -> Result<Reply<'static>, Fault>
+) -> Result<Reply<'a>, Fault>
     ensures answer { Finds result (λ answer. with_rules (login_view login.now) moment.now (rules_of bytes.now) ≡ answer) }
     ensures wants { WantsOnly (of_tables false false true) result }
 {
@@ -72,13 +72,13 @@ fn answer_login(
 }
 
 /// Looks up the login of a request at a moment in the time table.
-pub(super) fn answer_time(
+pub(super) fn answer_time<'a>(
     alloc: Global,
     service: &str,
     login: pam_words::Login<'_>,
     moment: Result<DateTime, MomentError>,
     inputs: &Inputs,
-) -> Result<Reply<'static>, Fault>
+) -> Result<Reply<'a>, Fault>
     ensures answer { Finds result (λ answer. timed (login_at service.now login.entry) (time_given inputs.now) moment ≡ answer) }
     ensures wants { WantsOnly (of_tables false false true) result }
 {

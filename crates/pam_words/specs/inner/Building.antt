@@ -7,10 +7,10 @@ use Rattle.clap.specs.Words.{App, Rule, Shape, Text, app_of, new_app, with_rule,
 use Rattle.clap.specs.declared.builder.Command.{Command}
 use Rattle.clap.specs.declared.builder.Command.TheViews.{out-Command as fields_of}
 use Rattle.pam_words.specs.Words.{bare_app, flag_rule, number_rule, option_rule, optional_rule, repeated_option_rule, repeated_rule}
-use Rattle.pam_words.specs.Words.{pamcheck_app, required_option_rule, required_options_rule, required_rule}
+use Rattle.pam_words.specs.Words.{pamcheck_app, required_option_rule, required_options_rule, required_rule, required_words_rule}
 use Rattle.pam_words.specs.declared.arguments.ArgForm.{ArgForm}
-use Rattle.pam_words.specs.declared.arguments.ArgForm.TheVariants.{Positional, OptionalPositional, Repeated, Optional, RepeatedOption, Required, RequiredRepeated}
-use Rattle.pam_words.specs.declared.arguments.ArgForm.TheVariants.{Number, Flag}
+use Rattle.pam_words.specs.declared.arguments.ArgForm.TheVariants.{Positional, OptionalPositional, Repeated, Optional, RepeatedOption, Required}
+use Rattle.pam_words.specs.declared.arguments.ArgForm.TheVariants.{RequiredRepeated, RequiredWords, Number, Flag}
 use Rattle.pam_words.specs.declared.arguments.ArgRow.{ArgRow}
 use Rattle.pam_words.specs.declared.arguments.Argument.{Argument}
 use Rattle.pam_words.specs.declared.arguments.Argument.TheVariants as argument
@@ -26,6 +26,7 @@ abbrev pub rule_in_form : ArgForm → Text → Rule
 rule_in_form Positional id = required_rule id
 rule_in_form OptionalPositional id = optional_rule id
 rule_in_form Repeated id = repeated_rule id
+rule_in_form RequiredWords id = required_words_rule id
 rule_in_form Optional id = option_rule id
 rule_in_form RepeatedOption id = repeated_option_rule id
 rule_in_form Required id = required_option_rule id
@@ -45,6 +46,7 @@ rule_of_word word.New = required_rule (codes "new")
 rule_of_word word.ServiceIfNamed = optional_rule (codes "service")
 rule_of_word word.KindIfNamed = optional_rule (codes "kind")
 rule_of_word word.Services = repeated_rule (codes "name")
+rule_of_word word.Policies = required_words_rule (codes "policy")
 rule_of_word word.Codes = repeated_rule (codes "code")
 rule_of_word word.Arguments = repeated_rule (codes "argument")
 rule_of_word word.Number = optional_rule (codes "number")

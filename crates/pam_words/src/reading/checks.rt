@@ -26,7 +26,7 @@ fn names_source(matches: &ArgMatches<'_>) -> bool
 }
 
 /// Returns the source, which is the running system if no option names one.
-fn source_or_root<'a>(matches: &ArgMatches<'a>) -> Option<ConfSource<'a>>
+pub(crate) fn source_or_root<'a>(matches: &ArgMatches<'a>) -> Option<ConfSource<'a>>
     ensures { option_map source_view result ≡ source_or_root_of (rows_of (found_of matches.now)) }
 {
     if names_source(matches) {
@@ -51,7 +51,7 @@ fn level_named(name: &str) -> Option<LevelName>
 }
 
 /// Returns the least level that fails, or `None` if the name that is given is not that of one.
-fn level(matches: &ArgMatches<'_>) -> Option<LevelName>
+pub(crate) fn level(matches: &ArgMatches<'_>) -> Option<LevelName>
     ensures { result ≡ level_of (rows_of (found_of matches.now)) }
 {
     match value(matches, "fail-on") {

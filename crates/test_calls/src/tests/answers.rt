@@ -218,7 +218,7 @@ fn sides_of(alloc: Global, login: &[u8]) -> Result<Inputs, Fail> {
     })
 }
 
-/// Returns no tables and no returns file, with which nothing is known of modules.
+/// Returns no tables, no returns file and no policies, with which nothing is known of modules.
 fn nothing_known(alloc: Global) -> KnowledgeInputs {
     KnowledgeInputs {
         there: None,
@@ -232,6 +232,7 @@ fn nothing_known(alloc: Global) -> KnowledgeInputs {
         },
         facts: None,
         returns: None,
+        policies: Texts::new(alloc),
     }
 }
 

@@ -1,7 +1,6 @@
-use Rattle.std.proofs.Common.{◌⊎◌, inr, List, ℕ}
+use Rattle.std.proofs.Common.{◌⊎◌, inr}
 use Rattle.std.specs.Option.{option_copied}
 use Rattle.std.proofs.lemmas.Result.{err_from_is_err_and}
-use Rattle.clap.specs.Words.{Text}
 use Rattle.pam_cli.specs.Reading.{IsNamed, IsOfCompare}
 use Rattle.pam_cli.specs.Sources.{IsUnread}
 use Rattle.pam_report.specs.declared.inputs.InputError.{InputError}

@@ -31,3 +31,8 @@ returns-in-Access g c =
     let candidates = map candidate_view c.args.request.now.candidates.items in
     subst (λ t. IsReading (g.S.System.told c.args.system.now) candidates t c.access_inputs.result) (sym c.in-Access.is)
     (c.access_inputs.ensures candidates c.in-Access.tables c.in-Access.login c.in-Access.arguments c.deref-in-Access.ensures.value)
+
+pub returns-in-Policy : goal.returns-in-Policy
+returns-in-Policy g c =
+    read-as (g.S.System.told c.args.system.now) _ _ _ _ c.policy_inputs.result c.in-Policy.is c.deref-in-Policy.ensures.value
+    (c.policy_inputs.ensures c.in-Policy.policies c.in-Policy.fail_on c.deref-in-Policy-2.ensures.value)

@@ -1,4 +1,5 @@
-use Rattle.std.proofs.Common.{◌&&◌, ap₂}
+use Rattle.std.proofs.Common.{◌&&◌, [], ap₂, subst, sym}
+use Rattle.pam_cli.specs.AccessTables.{AreContents}
 use Rattle.pam_cli.proofs.NamedTables.{tables_given}
 use Rattle.pam_cli.proofs.reading.known_inputs.Goals as goal
 
@@ -15,4 +16,5 @@ returns g c =
       files.0.1,
       files.1.1,
       rw (← c.deref.ensures.value) c.in_ok-there.ensures.ok,
+      subst (λ policies. AreContents told [] policies) (sym c.new.ensures) tt,
     )

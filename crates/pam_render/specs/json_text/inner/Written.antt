@@ -1,6 +1,8 @@
 -- For private contracts and proofs alone: the values that are written part by part.
 use Rattle.std.specs.Prelude.{map, option_map}
+use Rattle.pam_policy.specs.host.Findings.{finding_view}
 use Rattle.pam_render.specs.parts.CheckNames.{word_of}
+use Rattle.pam_render.specs.parts.PolicyView.{host_view, told_view}
 use Rattle.pam_codes.specs.ControlText.{control_text}
 use Rattle.pam_render.specs.json_lines.Line.{joined, strings}
 use Rattle.pam_render.specs.parts.Ways.{count_text}
@@ -11,12 +13,15 @@ use Rattle.pam_report.specs.ReplyViews.{side_files}
 use Rattle.pam_render.specs.json_text.Check.{answers_array, services_array, types_array}
 use Rattle.pam_render.specs.json_text.Compare.{arguments_array, fault_if_any, new_modules, old_modules, steps_array as asked_array}
 use Rattle.pam_render.specs.json_text.Paths.{next_or_null}
+use Rattle.pam_render.specs.json_text.Policy.{sentence_string, stacks_array, steps_array as policy_steps}
 use Rattle.pam_render.specs.json_text.Sentences.{said_parts, table_parts}
 use Rattle.pam_render.specs.json_text.Steps.{cursor_string, steps_array}
 use Rattle.pam_render.specs.declared.json_text.check.values.FindingValue.{FindingValue}
 use Rattle.pam_render.specs.declared.json_text.check.values.FindingValue.TheVariants.{Answers, Said, Services, TableSaid, Types, Unused}
 use Rattle.pam_render.specs.declared.json_text.compare.values.ChangeValue.{ChangeValue}
 use Rattle.pam_render.specs.declared.json_text.compare.values.ChangeValue.TheVariants.{Arguments as ModuleArguments, Fault, NewModules, OldModules, Steps as AskedSteps}
+use Rattle.pam_render.specs.declared.json_text.policy.values.PolicyValue.{PolicyValue}
+use Rattle.pam_render.specs.declared.json_text.policy.values.PolicyValue.TheVariants.{Sentence, Stacks, Steps as PolicySteps}
 use Rattle.pam_render.specs.declared.json_text.show.ModuleValue.{ModuleValue}
 use Rattle.pam_render.specs.declared.json_text.show.ModuleValue.TheVariants.{Arguments, Control}
 use Rattle.pam_render.specs.declared.json_text.steps.PathValue.{PathValue}
@@ -46,3 +51,8 @@ finding_value Unused = string unused_sentence
 finding_value (Types met) = types_array met
 finding_value (Services services met) = services_array (map (λ service. service.now) services.now) met
 finding_value (Answers ways problem) = answers_array ways.now problem
+
+abbrev pub policy_value : PolicyValue → Data
+policy_value (Sentence host told) = sentence_string (host_view host.now) (told_view told.now)
+policy_value (Stacks host places) = stacks_array (host_view host.now) places.now
+policy_value (PolicySteps host finding) = policy_steps (host_view host.now) (finding_view finding)

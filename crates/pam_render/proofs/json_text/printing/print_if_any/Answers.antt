@@ -3,13 +3,15 @@ use Rattle.std.specs.Option.{option_copied}
 use Rattle.pam_codes.specs.Out.{Out}
 use Rattle.pam_render.proofs.PartsProofs.Printed.{printed-as, text-printed}
 use Rattle.pam_render.specs.parts.Findings.{IsCheckBy}
+use Rattle.pam_render.specs.parts.Policy.{IsPolicyBy}
 use Rattle.pam_render.specs.parts.Prints.{PrintsBy}
 use Rattle.pam_report.specs.Reply as spec
-use Rattle.pam_report.specs.ReplyViews.{check_view, compare_view, outcomes_view, reply_view, run_view, stack_view}
+use Rattle.pam_report.specs.ReplyViews.{check_view, compare_view, outcomes_view, policy_view, reply_view, run_view, stack_view}
 use Rattle.pam_report.specs.declared.fault.Fault.{Fault}
 use Rattle.pam_report.specs.declared.report.replies.Reply as declared
 use Rattle.pam_report.specs.declared.report.replies.Reply.TheVariants as replies
 use Rattle.pam_render.specs.json_text.Check.{line_json}
+use Rattle.pam_render.specs.json_text.Policy.{line_json as policy_line}
 use Rattle.pam_render.specs.json_text.Text.{IsJson, PrintsIfAny, has_json}
 use Rattle.pam_render.proofs.json_text.printing.print_if_any.Goals as goal
 
@@ -61,3 +63,9 @@ returns-in-Compared g c =
     written g.W.Write.contents _ _ _ (replies.Compared c.in-Compared.compared) _ c.in-Compared.is refl
     (text-printed g.W.Write.contents IsJson _ _ (spec.Compared (compare_view c.in-Compared.compared)) _ _ _ refl c.with_write_fault-in-Compared.ensures
     c.write_compared.ensures)
+
+pub returns-in-Policy : goal.returns-in-Policy
+returns-in-Policy g c =
+    written g.W.Write.contents _ _ _ (replies.Policy c.in-Policy.policies) _ c.in-Policy.is refl
+    (printed-as g.W.Write.contents (IsPolicyBy policy_line) IsJson _ _ (spec.Policy (policy_view c.in-Policy.policies)) (λ text h. h) _
+    c.write_policy.ensures)

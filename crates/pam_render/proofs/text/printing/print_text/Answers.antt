@@ -2,10 +2,12 @@ use Rattle.std.proofs.Common.{refl}
 use Rattle.std.specs.Option.{option_copied}
 use Rattle.pam_render.proofs.PartsProofs.Printed.{printed-as, reply-is, text-printed}
 use Rattle.pam_render.specs.parts.Findings.{IsCheckBy}
+use Rattle.pam_render.specs.parts.Policy.{IsPolicyBy}
 use Rattle.pam_report.specs.Reply as spec
-use Rattle.pam_report.specs.ReplyViews.{check_view, outcomes_view, run_view, stack_view}
+use Rattle.pam_report.specs.ReplyViews.{check_view, outcomes_view, policy_view, run_view, stack_view}
 use Rattle.pam_report.specs.declared.report.replies.Reply.TheVariants as replies
 use Rattle.pam_render.specs.text.Check.{line_text}
+use Rattle.pam_render.specs.text.Policy.{line_text as policy_line}
 use Rattle.pam_render.specs.text.Text.{IsText}
 use Rattle.pam_render.proofs.text.printing.print_text.Goals as goal
 
@@ -45,3 +47,9 @@ returns-in-Graph g c = reply-is g.W.Write.contents IsText _ _ _ (replies.Graph c
 pub returns-in-Check : goal.returns-in-Check
 returns-in-Check g c = reply-is g.W.Write.contents IsText _ _ _ (replies.Check c.in-Check.check) _ c.in-Check.is
     (printed-as g.W.Write.contents (IsCheckBy line_text) IsText _ _ (spec.Check (check_view c.in-Check.check)) (λ text h. h) _ c.write_check.ensures)
+
+pub returns-in-Policy : goal.returns-in-Policy
+returns-in-Policy g c =
+    reply-is g.W.Write.contents IsText _ _ _ (replies.Policy c.in-Policy.policies) _ c.in-Policy.is
+    (printed-as g.W.Write.contents (IsPolicyBy policy_line) IsText _ _ (spec.Policy (policy_view c.in-Policy.policies)) (λ text h. h) _
+    c.write_policy.ensures)

@@ -12,6 +12,7 @@ refused (faults.Table e) answer h = h
 refused (faults.Time e) answer h = h
 refused (faults.Conf e) answer h = absurd h
 refused (faults.Facts e) answer h = absurd h
+refused (faults.Policy e) answer h = absurd h
 refused (faults.Accept e) answer h = absurd h
 refused (faults.Moment e) answer h = absurd h
 refused (faults.Count e) answer h = absurd h
