@@ -180,6 +180,30 @@ def including(line):
     return sized
 
 
+POLICIES = os.path.join(os.path.dirname(os.path.realpath(__file__)), "../examples/policies")
+NAMED = ("sshd", "login", "su", "su-l", "sudo", "passwd")
+
+
+def judged_host(count):
+    """The policies of the examples, and a host of a number of files that has the services of which they speak."""
+    def make(folder):
+        host(count - len(NAMED))(folder)
+        for name in NAMED:
+            put(folder, "d/" + name, SERVICE)
+        for name in ("mfa", "lockout", "su", "cis"):
+            with open(os.path.join(POLICIES, name + ".policy"), "rb") as file:
+                put(folder, name + ".policy", file.read())
+    return make
+
+
+def many_rules(count):
+    """A number of rules about all stacks of a host of 40 files."""
+    def make(folder):
+        host(40)(folder)
+        put(folder, "policy", b"* * never asks pam_unix[md5]\n" * count)
+    return make
+
+
 READERS = ["paths", "login", "account", "--dir", "d", "--access", "access", "--user", "alice", "--limit", "1"]
 
 CASES = [
@@ -215,6 +239,9 @@ CASES = [
     ("comparison of a host of 30 files with itself", ["compare", "d", "d"], host, (8, 15, 30), 0),
     ("comparison of hosts of 40 files, one line of them changed", ["compare", "old", "d"], changed_host, (10, 20, 40), 0),
     ("comparison of stacks of 12 modules in reverse orders", ["compare", "old", "d", "login", "auth"], reversed_stacks, (3, 6, 12), 0),
+    ("four policies of 31 rules over a host of 40 files", ["policy", "mfa.policy", "lockout.policy", "su.policy", "cis.policy", "--dir", "d"],
+     judged_host, (12, 20, 40), 0),
+    ("a policy of 1,000 rules about all stacks of a host of 40 files", ["policy", "policy", "--dir", "d"], many_rules, (250, 500, 1000), 0),
     ("check of a host of 10,000 files", ["check", "--dir", "d"], host, (2500, 5000, 10000), 0),
 ]
 

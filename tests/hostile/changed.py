@@ -63,6 +63,17 @@ account required pam_time.so
 HOST = {"login": STACK + b"""account optional pam_access.so listsep=,
 session required pam_access.so fieldsep=+ listsep=
 """}
+POLICY = b"""# why
+log*,!su auth needs a[x] or b
+* *	obeys a.so and b=failure # x
+su auth,account never succeeds with a=any and b[d<=3]=success without c=but:Ignore
+login auth can decide auth_err,failure
+login auth always asks a before c
+"""
+JUDGED = {"login": b"""auth sufficient a.so x
+auth required b.so d=3
+account required /c.so
+""", "su": b"auth required a.so\n"}
 CURSORS = [b"0.0.12", b"25.1", b"6.0", b"-"]
 MOMENT = b"2024-05-06T17:29:59"
 CANDIDATE = b"login=o/other"
@@ -153,6 +164,11 @@ def tables():
     yield from of_file(GROUP, "group", tree, [*ACCESS_WORDS, account, CHECK])
     yield from of_file(TIME, "time", tree, [*TIME_WORDS, account, CHECK, CHECK])
     yield from of_file(RETURNS, "returns", tree, [auth, account, counted, graph])
+
+
+def policies():
+    """A policy, which is judged over a small host."""
+    yield from of_file(POLICY, "policy", {"d": JUDGED}, [["policy", "policy", "--dir", "d"], ["policy", "policy", "--dir", "d", "--json"]])
 
 
 def words():

@@ -12,11 +12,11 @@ from model import plain
 V2 = b"pamcheck: V2 Write\n"
 COMMON = b"auth [success=1 default=ignore] a.so\nauth requisite pam_deny.so\n"
 TREE = {"d": {"login": b"auht required a.so\r\n@include common\n", "common": COMMON, "two\nlines": b"auth requird b.so\n"},
-        "s": {"login": COMMON}, "n": {"login": COMMON[:COMMON.index(b"\n") + 1] + b"auth optional pam_deny.so\n"}}
+        "p": b"s* auth needs pam_unix\n* auth,account never asks pam_dney\nlogin auth obeys a\n", "s": {"login": COMMON}, "n": {"login": COMMON[:COMMON.index(b"\n") + 1] + b"auth optional pam_deny.so\n"}}
 STACK = ["login", "auth", "--dir", "s"]
 ASKED = [["check", "--dir", "d"], ["outcomes", *STACK], ["graph", *STACK], ["graph", *STACK, "--format", "mermaid"],
          ["compare", "s", "n"], ["explain", "e15"], ["explain", "L2"], ["show", *STACK], ["decide", *STACK, "success", "ignore"],
-         ["check", "--dir", "d", "--json"]]
+         ["check", "--dir", "d", "--json"], ["policy", "p", "--dir", "s"], ["policy", "p", "--dir", "s", "--json"]]
 # Answers of many bytes, of which not every one is tried.
 LONG = [["graph", *STACK, "--format", "svg"], ["explain"], ["facts"], ["paths", *STACK], ["paths", *STACK, "--json"], ["help", "check"]]
 STEP = 97

@@ -2,7 +2,7 @@
 arguments, folders, candidates and tables.
 
 Each answer is the plain reading's. Besides, no control character of a name comes out of `check`, `compare`, `graph` and `explain`,
-nor out of `outcomes` after its header, U+009B included, which some terminals take as the begin of an escape; so each line is one that
+nor out of `policy`, nor out of `outcomes` after its header, U+009B included, which some terminals take as the begin of an escape; so each line is one that
 the program wrote. Nor does a character that cannot be seen, or that turns the direction of the text. The texts of drawings are
 printable ASCII. What `show`, headers and faults say of names is their own bytes."""
 import re
@@ -19,6 +19,7 @@ NAMES = ["line\nfeed", "\nlogin:1: error: E1 NulByte: none", "\x1b[31mred\x1b[0m
 CONTROL = re.compile(rb"[\x00-\x09\x0b-\x1f\x7f]|\xc2[\x80-\xa0]|\xe2\x80[\x8b-\x8f\xa8-\xae]|\xe2\x81[\xa0-\xaf]|\xef\xbb\xbf")
 NO_ASCII = re.compile(rb"[^\n\x20-\x7e]")
 CHECKED = re.compile(rb".*: (error|warning|note): [A-Z]+[0-9]+ [A-Za-z0-9]+: |checked [0-9]+ services?, ", re.DOTALL)
+JUDGED = re.compile(rb".*:[0-9]+: (error|warning): P[0-9] [A-Za-z]+: |checked [0-9]+ rules?, ", re.DOTALL)
 REST = b"account required pam_unix.so\n"
 
 
@@ -52,10 +53,15 @@ def harmless(words, tree, got, harmful, line=None):
 
 def of_tree(program, service, folder):
     """How many answers over a folder were tried."""
-    stack, tree = [service, "auth", "--dir=d"], {"d": folder, "e": {**folder, "login": REST}, "c": folder[min(folder)]}
+    # The name as far as it is one word of a policy: of a service and of a module.
+    word = re.sub(rb"[\s#/!*,=[\]]", b"", service.encode()) or b"x"
+    policy = b"* auth never asks pam_deny\n*,%s auth needs %s\n* account can succeed with %s=any\n" % (word, word, word)
+    stack, tree = [service, "auth", "--dir=d"], {"d": folder, "e": {**folder, "login": REST}, "c": folder[min(folder)], "p": policy}
     program.hold(tree)
     for words in (["check", "--dir=d"], ["check", "--dir=d", "--with=%s=c" % service, "--fail-on=note"]):
         harmless(words, tree, answered(program, words, tree), CONTROL, CHECKED)
+    for words in (["policy", "p", "--dir=d"], ["policy", "--dir=d", "p", "--set=a.so=success,auth_err"]):
+        harmless(words, tree, answered(program, words, tree), CONTROL, JUDGED)
     stacks = [] if service.startswith("-") else [["show", *stack], ["outcomes", *stack]]
     for words in stacks:
         got = answered(program, words, tree)
@@ -69,7 +75,7 @@ def of_tree(program, service, folder):
     comparisons = [] if has_comma else [[b"compare", b"d", b"e"], [b"compare", b"e", b"d"]]
     for words in comparisons:
         harmless(words, tree, compared.judged(program, words, tree), CONTROL)
-    return 2 + len(stacks) + len(drawings) + len(comparisons)
+    return 4 + len(stacks) + len(drawings) + len(comparisons)
 
 
 def of_paths(program, name):
@@ -79,7 +85,8 @@ def of_paths(program, name):
     tree = {name: {"login": b"auth requird a.so\naccount required pam_access.so\n", "table": b"x\n", "accept": b"S6\nS7 x\n"}}
     program.hold(tree)
     table = "%s/table" % name
-    asked = [["check", "--dir", name, "--access", table, "--group", table], ["check", "--dir", name, "--accept", name + "/accept"],
+    asked = [["policy", name + "/accept", "--dir", name],
+             ["check", "--dir", name, "--access", table, "--group", table], ["check", "--dir", name, "--accept", name + "/accept"],
              ["check", "--conf", name + "/login"], ["check", "--dir", name, "--with", "login=%s/table" % name]]
     for words in asked:
         harmless(words, tree, answered(program, words, tree), CONTROL, CHECKED)

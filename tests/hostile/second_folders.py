@@ -6,6 +6,8 @@ from hostile import compared
 OTHER = b"auth required pam_deny.so\n"
 STACK = ["login", "auth"]
 CHECK = ["check"]
+POLICY = ["policy", "p"]
+RULES = b"* auth needs m3 or pam_deny\n* * never asks m0\nlogin auth can fail\n"
 ASKED = [["check", "login"], ["show", *STACK], ["outcomes", *STACK], ["graph", *STACK], ["paths", *STACK, "--limit", "2"]]
 DEPTH = 16
 MOST_FOLLOWED = 256
@@ -45,11 +47,11 @@ def run(program):
     """How many answers over two folders were tried, by `--vendor-dir` and below a root."""
     runs = 0
     for first, second in FOLDERS:
-        tree = {"d": first, "v": second, "r": {"etc": {"pam.d": first}, "usr": {"lib": {"pam.d": second}}}}
+        tree = {"p": RULES, "d": first, "v": second, "r": {"etc": {"pam.d": first}, "usr": {"lib": {"pam.d": second}}}}
         program.hold(tree)
         for source in (["--dir", "d", "--vendor-dir", "v"], ["--vendor-dir=d", "--dir=v"], ["--root", "r"]):
             # The plain reading takes seconds to check some hundred services.
-            for words in ASKED if len(second) >= MOST_FOLLOWED else [CHECK, *ASKED]:
+            for words in ASKED if len(second) >= MOST_FOLLOWED else [CHECK, POLICY, *ASKED]:
                 program.check([*words, *source], tree)
                 runs += 1
         compared.judged(program, [b"compare", b"r", b"r", b"--root"], tree)

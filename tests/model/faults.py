@@ -36,6 +36,14 @@ NAMES = dict(line.split() for line in """
     TE14 BadModule
     TE15 BadAccept
     TE16 BadFact
+    TE17 BadServices
+    TE18 BadKinds
+    TE19 BadVerb
+    TE20 BadEvent
+    TE21 BadList
+    TE22 NoAnswers
+    TE23 ExtraWord
+    TE24 TooManyRules
     C1 Syntax
     C2 NotLeast
     C3 TooShort

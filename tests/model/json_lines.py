@@ -185,3 +185,25 @@ def of_stack(head, rest):
         return line("not_known", **head, situations=int(re.search(r"\d+", more)[0]))
     old, new, steps = re.fullmatch("(\\S+) becomes (\\S+) where (.*)", more).groups()
     return line("change", **head, change=what[:-1], old=old, new=new, steps=[asked(step) for step in steps.split(", ")])
+
+
+# The lines of `policy`.
+
+def of_rule(rule):
+    """What names a rule."""
+    return {"policy": text(rule.policy), "line": rule.line, "rule": text(rule.text)}
+
+
+def policy(judgement):
+    """What `policy` prints of a judgement."""
+    for rule, findings, _, _ in judgement.rules:
+        for found in findings:
+            yield line("finding", number=found.number, name=found.name, level=text(host.LEVELS[found.level]), **of_rule(rule),
+                       sentence=text(found.sentence(lambda name: text(name).encode())),
+                       stacks=[{"service": text(service), "type": text(kind)} for service, kind in found.met],
+                       decision=found.decision and text(found.decision),
+                       steps=[{"number": number, "module": text(module), "code": text(code)} for number, module, code in found.steps])
+    for rule, _, verdict, places in judgement.rules:
+        yield line("rule", **of_rule(rule), verdict=verdict, stacks=len(places))
+    levels = judgement.levels
+    yield line("total", rules=len(judgement.rules), stacks=judgement.stacks, errors=levels.count(2), warnings=levels.count(1), notes=0)

@@ -7,7 +7,7 @@ words that it does not take is its own, so standard error is `None` then. Help a
 import re
 from itertools import islice
 
-from model import compare, graph, json_lines, readings, services, sources, stacks, tables, zones
+from model import compare, graph, json_lines, policies, policy_text, readings, services, sources, stacks, tables, zones
 from model import given as plain_given
 from model import host as plain_host
 from model import outcomes as plain_outcomes
@@ -25,22 +25,24 @@ OPTIONS = {
     b"paths": SOURCES + b" --json --limit --after --before --decision --asks" + KNOWING,
     b"outcomes": SOURCES + b" --json" + ANSWERS + KNOWING,
     b"graph": SOURCES + b" --format" + ANSWERS + KNOWING,
+    b"policy": SOURCES + b" --facts --fail-on --json" + KNOWING,
     b"access": b"--access --user --group --rhost --tty --json",
     b"time": b"--time --user --tty --at --at-unix --zone --json",
     b"facts": b"",
     b"version": b"",
 }
 OF_PATHS = (b"paths", b"outcomes", b"graph")
+OF_LOGINS = (*OF_PATHS, b"policy")
 REPEATED = (b"--access", b"--modules", b"--with", b"--set")
 FLAGS = {b"compare": [b"--conf", b"--root", b"--json"],
-         **dict.fromkeys([b"check", b"show", b"decide", b"paths", b"outcomes", b"access", b"time"], [b"--json"])}
+         **dict.fromkeys([b"check", b"show", b"decide", b"paths", b"outcomes", b"policy", b"access", b"time"], [b"--json"])}
 WITH_SOURCE = [name for name, options in OPTIONS.items() if options.startswith(SOURCES)]
 ABOUT = (b"facts", b"version")
 VERSION = b"pamcheck 1.0.0 (proved with rattle, logic dac8208d650f15bf)\n"
 REQUIRED = {b"access": [b"--access", b"--user"], b"time": [b"--time", b"--user"]}
 MOST_ARGUMENTS = {b"compare": 4, b"facts": 0, b"version": 0, b"show": 2, b"paths": 2, b"outcomes": 2, b"graph": 2, b"time": 1}
 LEAST_ARGUMENTS = {b"check": 0, b"compare": 2, b"facts": 0, b"version": 0, b"show": 2, b"decide": 2, b"paths": 2, b"outcomes": 2, b"graph": 2,
-                   b"access": 1, b"time": 1}
+                   b"policy": 1, b"access": 1, b"time": 1}
 MOST_COUNTED = 2 ** 128
 
 
@@ -127,13 +129,16 @@ class Request:
     def judge(self):
         """Refuses words, the candidates aside."""
         if self.command in WITH_SOURCE:
-            sources.judge(self.options, self.command == b"check")
+            sources.judge(self.options, self.command in (b"check", b"policy"))
         if self.options.get(b"--fail-on", b"warning") not in plain_host.LEVELS:
             raise Fault("U13")
         if self.command == b"compare":
             self.judge_sides()
             self.settings = settings_of(self.options)
-        if self.command in (b"check", b"compare", *ABOUT):
+        if self.command == b"policy":
+            self.settings = settings_of(self.options)
+            self.judge_login_and_moment()
+        if self.command in (b"check", b"compare", b"policy", *ABOUT):
             return
         self.service = self.arguments[0].lower()
         if self.command in (b"show", b"decide", b"paths", b"outcomes", b"graph"):
@@ -194,10 +199,10 @@ class Request:
             return b"".join(map(json_lines.compared, text.splitlines())) if self.is_json() else text, status
         source = sources.Source(self.options, tree, self.candidates) if self.command in WITH_SOURCE else None
         self.tables, self.access_tables, self.there = {}, [], None
-        if self.command in OF_PATHS:
+        if self.command in OF_LOGINS:
             self.learn(source, tree)
         for option in (b"--group", b"--time", b"--facts", b"--returns"):
-            is_asked = option != b"--facts" or self.command in OF_PATHS and self.answers == b"possible"
+            is_asked = option != b"--facts" or self.command == b"policy" or self.command in OF_PATHS and self.answers == b"possible"
             if option in self.options and is_asked and self.command != b"check":
                 self.tables[option] = read(tree, self.options[option])
         if self.command == b"access":
@@ -211,6 +216,8 @@ class Request:
             return (b"granted\n", 0) if granted else (b"denied line %d\n" % line, 1)
         if self.command == b"check":
             return self.check(source, tree)
+        if self.command == b"policy":
+            return self.policy(source, [(name, read(tree, name)) for name in self.arguments])
         if b"--as" in self.options:
             return readings.shown(source.files, self.service, self.kind, self.options[b"--as"], shown_word_text), 0
         if self.command in (b"outcomes", b"graph"):
@@ -271,6 +278,33 @@ class Request:
         if self.is_json():
             return b"".join(json_lines.check(host, source.paths, accept, given)), status
         return plain_host.text(host, source.paths, accept, given), status
+
+    def policy(self, source, named):
+        """Whether the rules of policies hold."""
+        form, files = source.files.form, source.files.files
+        if self.candidates:
+            services.judge_candidates(plain_host.Host(form, files), [name for name, _ in self.candidates])
+        self.facts = tuple(tuple(row) for row in plain_given.facts(self.tables.get(b"--facts", b"")))
+        rules = []
+        for name, data in named:
+            rules += policy_text.rules_of(name, data, len(rules), plain_host.shown)
+        self.moment()
+        side = compare.Side(source.files, self.there, self.facts, {}, self.settings)
+        if any(not codes or not side.calls(key) for key, codes in self.settings):
+            raise Fault("U10")
+        judgement = policies.Judgement(policies.Host(source.files, self.there, self.facts, self.answers_at), rules)
+        status = plain_host.status(judgement.levels, self.options.get(b"--fail-on", b"warning"))
+        return judgement.json() if self.is_json() else judgement.text(), status
+
+    def answers_at(self, service, kind, modules):
+        """The codes that each module of a stack may answer."""
+        self.service, self.kind = service, kind
+        known = self.told(modules)
+        for key, codes in self.settings:
+            for position, module in enumerate(modules):
+                if key == module.path.rpartition(b"/")[2] and (self.there is None or module.path in self.there):
+                    known[position] = codes
+        return known
 
     def side(self, name, tree):
         """The files of a side of a comparison, and the paths at which a module is there."""
@@ -336,12 +370,19 @@ class Request:
 
     def said(self, module):
         """The codes of a module of which neither a setting, nor a table, nor a line of the returns file tells."""
+        if self.command == b"policy":
+            return policies.possible(module, self.kind, self.facts)
         if self.answers == b"any":
             return set(stacks.CODES)
         return plain_host.possible(module, self.kind, self.facts)
 
     def known(self, modules):
-        """The codes that each module may answer."""
+        """The codes that each module may answer, with what is set for it."""
+        names = [module.path.rpartition(b"/")[2] for module in modules]
+        return self.with_settings(names, modules, self.told(modules))
+
+    def told(self, modules):
+        """The codes that each module may answer, without what is set."""
         moment = self.moment()
         has_access, has_time = bool(self.access_tables), b"--time" in self.tables
         names = [module.path.rpartition(b"/")[2] for module in modules]
@@ -374,7 +415,7 @@ class Request:
         for position, (name, module) in enumerate(zip(names, modules)):
             is_there = self.there is None or module.path in self.there
             known[position] = known[position] or returns.get(name) or self.said(module) if is_there else {b"module_unknown"}
-        return self.with_settings(names, modules, known)
+        return known
 
     def with_settings(self, names, modules, known):
         """The codes that each module may answer, with what is set for it."""
