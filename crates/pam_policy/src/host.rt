@@ -13,8 +13,6 @@ mod report;
 mod spoken;
 mod spoken_places;
 mod stacks;
-#[cfg(test)]
-mod stacks_tests;
 mod standing;
 #[cfg(test)]
 mod tests;
