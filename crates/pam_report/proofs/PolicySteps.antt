@@ -1,5 +1,6 @@
 -- Policies, one after another: what is read of them, and what is judged.
-use Rattle.std.proofs.Common.{◌≡◌, ◌∙◌, ◌+◌, ◌++◌, ◌≤◌, ◌⊎◌, ℕ, suc, All, List, [], ◌∷◌, Option, Result, Ok, Err, ap, append-nil, append_assoc, arith, inl, inr, length, map, refl, subst, sym}
+use Rattle.std.proofs.Common.{◌≡◌, ◌∙◌, ◌+◌, ◌++◌, ◌≤◌, ◌⊎◌, ℕ, suc, All, List, [], ◌∷◌, Option, Result, Ok, Err}
+use Rattle.std.proofs.Common.{ap, append-nil, append_assoc, arith, inl, inr, length, map, refl, subst, sym}
 use Rattle.std.proofs.lemmas.List.{length-append, length-map, map-append}
 use Rattle.std.proofs.lemmas.List.Elements.{All-nil, All-push}
 use Rattle.std.proofs.lemmas.List.FromFn.{map-range_with_len_more}
@@ -61,7 +62,8 @@ pub record AreRead (texts : List (List ℕ)) (policies : List Policy) (before : 
 pub none-read : (texts : List (List ℕ)) → AreRead texts [] 0 texts
 none-read texts = record { few = omega arith; told = sym (after-none (policies_of texts)) }
 
-module _ (texts : List (List ℕ)) (policies : List Policy) (before : ℕ) (bytes : List ℕ) (left : List (List ℕ)) (so_far : AreRead texts policies before (bytes ∷ left)) where
+module _ (texts : List (List ℕ)) (policies : List Policy) (before : ℕ) (bytes : List ℕ) (left : List (List ℕ))
+    (so_far : AreRead texts policies before (bytes ∷ left)) where
   abbrev number : ℕ
   number = length policies + 1
 

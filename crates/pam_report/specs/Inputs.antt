@@ -164,7 +164,7 @@ fits_knowledge named (inputs.Paths files given) =
     && (beq (is_some given.returns) (is_some named.returns) && has_named_tables named.tables given.tables)
 fits_knowledge named _ = false
 
--- so many policies
+-- the number of policies is this one
 abbrev pub has_policies : ℕ → Inputs → Bool
 has_policies count inputs = length (policies_given inputs) == count
 

@@ -1,4 +1,4 @@
-//! How a rule stands at a host.
+//! The result of a rule on a whole host.
 
 ghost use Rattle.std.specs.Prelude.{◌≡◌};
 ghost use Rattle.std.specs.List.{list_any};
@@ -7,7 +7,7 @@ ghost use Rattle.pam_policy.specs.host.Told.{is_refuted, is_unjudged, standing_b
 use crate::host::report::{ClassReport, RuleReport};
 use crate::rules::Verdict;
 
-/// How a rule stands at a host.
+/// The result of a rule on a whole host.
 #[derive(Clone, Copy, Debug, PartialEq, Eq)]
 pub enum Standing {
     /// It holds at each class of its places.
@@ -58,7 +58,7 @@ fn standing_by(refuted: bool, unjudged: bool) -> Standing
 }
 
 impl RuleReport {
-    /// How the rule stands: it is broken if it does not hold at some class of its places, even if nothing is known of another.
+    /// Returns the result: `Broken` if the rule does not hold at some class of its places, even if nothing is known of another.
     pub fn standing(&self) -> Standing
         ensures { result ≡ standing_of self.now }
     {

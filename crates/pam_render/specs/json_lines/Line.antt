@@ -26,7 +26,7 @@ abbrev pub number_or_null : Option ℕ → Data
 number_or_null None = null
 number_or_null (Some n) = number (unsigned n)
 
--- bytes as a string, with U+FFFD for what is no UTF-8
+-- bytes as a string, with U+FFFD in place of invalid UTF-8
 abbrev pub readable : List ℕ → Data
 readable bytes = string (utf8_lossy bytes)
 

@@ -48,7 +48,7 @@ kind_of_place host position = option_map_or (λ place. kind_name place.kind) (sl
 abbrev pub is_of_class : Host → ℕ → ℕ → Bool
 is_of_class host class position = option_map_or (λ place. nat_eq place.class class) (slice_get host.places position) false
 
--- RULES: the policy and the line in which a rule stands, its words with one space between them, and what the host says of it
+-- RULES: the policy and the line of a rule, its words separated by single spaces, and what the host says of it
 pub record ToldRule : Type 0 where
   pub policy : List ℕ
   pub line : ℕ

@@ -15,7 +15,7 @@ phrase_text (Said words) = words
 phrase_text (Name name) = shown_name name
 phrase_text (Number number) = decimal number
 
--- in a string of JSON, where U+FFFD stands for what is no UTF-8 in a name
+-- in a JSON string, where U+FFFD replaces invalid UTF-8 in a name
 abbrev pub phrase_chars : Phrase → List ℕ
 phrase_chars (Said words) = words
 phrase_chars (Name name) = utf8_lossy name

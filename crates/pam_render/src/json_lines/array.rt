@@ -86,7 +86,7 @@ fn put_all_strings<W: Write>(texts: &Texts, out: &mut Out<W>) -> Result<(), Devi
     out.put(b"]")
 }
 
-/// Writes the array of texts, with U+FFFD for what is no UTF-8 in them.
+/// Writes the array of texts, with U+FFFD in place of invalid UTF-8.
 pub fn put_strings<W: Write>(texts: &Texts, out: &mut Out<W>) -> Result<(), Device>
     ensures { Writes W.contents out.old out.new result (compact_text (strings texts.now)) }
 {

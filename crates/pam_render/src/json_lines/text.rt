@@ -65,7 +65,7 @@ fn put_byte<W: Write>(byte: u8, out: &mut Out<W>) -> Result<(), Device>
     out.put(&[byte])
 }
 
-/// Writes a part of a text, which is UTF-8, as it stands in a string.
+/// Writes a part of a UTF-8 text, escaped for a string.
 pub(crate) fn put_escaped<W: Write>(text: &[u8], out: &mut Out<W>) -> Result<(), Device>
     ensures { Writes W.contents out.old out.new result (escape text.now) }
 {
@@ -92,7 +92,7 @@ fn put_chunk<W: Write>(valid: &[u8], invalid: &[u8], out: &mut Out<W>) -> Result
     put_invalid(invalid, out)
 }
 
-/// Writes bytes as they stand in a string, with U+FFFD for what is no UTF-8.
+/// Writes bytes, escaped for a string, with U+FFFD in place of invalid UTF-8.
 pub(crate) fn put_chunks<W: Write>(bytes: &[u8], out: &mut Out<W>) -> Result<(), Device>
     ensures { Writes W.contents out.old out.new result (escape (utf8_lossy bytes.now)) }
 {
@@ -111,7 +111,7 @@ pub fn put_quoted<W: Write>(text: &[u8], out: &mut Out<W>) -> Result<(), Device>
     out.put(b"\"")
 }
 
-/// Writes bytes as a string, with U+FFFD for what is no UTF-8.
+/// Writes bytes as a string, with U+FFFD in place of invalid UTF-8.
 pub fn put_readable<W: Write>(bytes: &[u8], out: &mut Out<W>) -> Result<(), Device>
     ensures { Writes W.contents out.old out.new result (quoted (utf8_lossy bytes.now)) }
 {
@@ -120,7 +120,7 @@ pub fn put_readable<W: Write>(bytes: &[u8], out: &mut Out<W>) -> Result<(), Devi
     out.put(b"\"")
 }
 
-/// A part of a string: bytes, with U+FFFD for what is no UTF-8.
+/// A part of a string: bytes, with U+FFFD in place of invalid UTF-8.
 #[derive(Clone, Copy, Debug)]
 pub struct Part<'x>(pub &'x [u8]);
 

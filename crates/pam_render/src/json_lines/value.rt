@@ -45,7 +45,7 @@ enum Value<'x, V> {
     Number(u64),
     /// UTF-8.
     Text(&'x [u8]),
-    /// Bytes, with U+FFFD for what is no UTF-8.
+    /// Bytes, with U+FFFD in place of invalid UTF-8.
     Readable(&'x [u8]),
     /// UTF-8, in lowercase.
     Lowercase(&'x [u8]),
@@ -75,7 +75,7 @@ impl<'x, V: Written> Member<'x, V> {
         }
     }
 
-    /// A string, with U+FFFD for what is no UTF-8 in the bytes.
+    /// A string of these bytes, with U+FFFD in place of invalid UTF-8.
     pub fn readable(name: &'x str, bytes: &'x [u8]) -> Member<'x, V>
         ensures { member_of V.value result ≡ (name.now, string (utf8_lossy bytes.now)) }
     {

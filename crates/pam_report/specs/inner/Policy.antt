@@ -93,7 +93,7 @@ FindsStacks sources (Err fault) = (fault ≡ faults.Memory) ⊎ IsTableRefusal s
 
 -- ---- what is judged
 
--- so many policies have these names, in their order
+-- this number of policies have these names, in order
 abbrev pub AreNamed : List (List ℕ) → ℕ → List JudgedPolicy → Type 0
 AreNamed names count policies = map (λ p. p.name.now) policies ≡ map (name_at names) (range_with_len 0 count)
 

@@ -58,7 +58,7 @@ impl Inputs {
         }
     }
 
-    /// Whether these are the contents of so many policies.
+    /// Whether these are the contents of this number of policies.
     fn has_policies(&self, count: usize) -> bool
         ensures { result ≡ has_policies count self.now }
     {
