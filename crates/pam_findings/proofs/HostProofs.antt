@@ -1,5 +1,7 @@
 pub mod Adding
+pub mod Alone
 pub mod Asking
+pub mod Causing
 pub mod Counted
 pub mod CutOff
 pub mod FileNames
@@ -10,10 +12,12 @@ pub mod LettingIn
 pub mod Linked
 pub mod Listed
 pub mod Meeting
+pub mod Once
 pub mod OneService
 pub mod Others
 pub mod Owned
 pub mod Passes
+pub mod PlaceOrder
 pub mod Places
 pub mod ReadBeside
 pub mod Removing
@@ -22,6 +26,7 @@ pub mod Ruled
 pub mod Seen
 pub mod Silence
 pub mod Taking
+pub mod Tokens
 pub mod Vain
 pub mod Vendored
 pub mod Verdicted

@@ -3,9 +3,11 @@ pub mod Counting
 pub mod CountingMarks
 pub mod Exactly
 pub mod Implied
+pub mod Leading
 pub mod MarkLists
 pub mod Marking
 pub mod NeverCounting
+pub mod Onward
 pub mod Passing
 pub mod Placed
 pub mod Reaching

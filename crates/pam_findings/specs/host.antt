@@ -1,6 +1,7 @@
 pub mod Arguments
 pub mod Beside
 pub mod Callers
+pub mod Causes
 pub mod Closed
 pub mod Failing
 pub mod Faillock
@@ -18,6 +19,7 @@ pub mod Problems
 pub mod Report
 pub mod Separators
 pub mod StackProblems
+pub mod Tokens
 pub mod Unasked
 pub mod UnknownModules
 pub mod Verdicts

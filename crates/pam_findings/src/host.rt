@@ -2,9 +2,11 @@
 //! however many stacks meet it.
 #![tactic(auto)]
 
+mod alone;
 mod arguments;
 mod beside;
 mod callers;
+mod causes;
 mod closed;
 mod cut_off;
 mod failing;
@@ -27,6 +29,8 @@ mod report;
 mod separators;
 mod stacks;
 mod table;
+mod taking;
+mod tokens;
 mod unasked;
 mod vendor;
 mod walk;

@@ -21,7 +21,7 @@ use Rattle.pam_findings.specs.declared.host.problem.Problem.TheVariants as probl
 use Rattle.pam_findings.specs.declared.host.problem.Spot.{Spot}
 use Rattle.pam_findings.specs.declared.host.report.Finding.{Finding}
 use Rattle.pam_findings.proofs.HostProofs.Passes.{puts-both, puts-iff, puts-none, settles-met}
-use Rattle.pam_findings.proofs.HostProofs.Places.{exact_places, places_total}
+use Rattle.pam_findings.proofs.HostProofs.PlaceOrder.{exact_places, places_total}
 use Rattle.pam_findings.proofs.HostProofs.Verdicted.{same-spot}
 
 -- ONE FILE

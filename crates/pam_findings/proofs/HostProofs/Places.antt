@@ -1,15 +1,10 @@
--- The places of problems: their order, and that two problems have two places.
+-- The places of problems: two problems have two places.
 use Rattle.std.proofs.Common.{◌≡◌, ℕ, ◌+◌, ◌-◌, ◌/◌, ◌%◌, ◌≤◌, arith, cond, nat_lt, if◌then◌else◌, Bool, true, false, [], ◌∷◌, refl, sym, ◌∙◌, ap}
-use Rattle.std.proofs.Common.{subst, inl, inr, Option, Some, None, slice_index_or, IfSome, nat_cmp}
+use Rattle.std.proofs.Common.{subst, inl, inr, Option, Some, None, slice_index_or, IfSome, unwrap_or}
 use Rattle.std.specs.BTreeMap.{Updates, get, is_at}
-use Rattle.std.specs.Cmp.{IsTotalOrder}
-use Rattle.std.specs.Cmp.Lexicographic.{options_total}
-use Rattle.std.specs.Option.{option_cmp}
-use Rattle.std.specs.Ordering.{is_eq, ordering_then}
-use Rattle.std.specs.declared.cmp.Ordering.{Ordering}
+use Rattle.std.specs.Ordering.{is_eq}
 use Rattle.std.proofs.lemmas.Bool.{cases_Bool, false≢true}
-use Rattle.std.proofs.lemmas.Cmp.{nat_cmp_total, on_total, then_total, tied_itself}
-use Rattle.std.proofs.lemmas.Map.Lookups.{CmpEqualImpliesEq, exact_pairs, exact_unsigned}
+use Rattle.std.proofs.lemmas.Cmp.{tied_itself}
 use Rattle.std.proofs.lemmas.Map.Views.{tells_apart}
 use Rattle.pam_arguments.specs.declared.lacks.Lack.{Lack}
 use Rattle.pam_arguments.specs.declared.lacks.Lack.TheVariants as lacks
@@ -23,8 +18,8 @@ use Rattle.pam_released.specs.declared.difference.Difference.{Difference}
 use Rattle.pam_released.specs.declared.difference.Difference.TheVariants.{CarriageReturn, ContinuedOverBlank, BackslashBlank, BackslashComment}
 use Rattle.pam_released.specs.declared.difference.Difference.TheVariants.{EndsInContinuation, CapitalInBrackets, LongLine, EmptyModuleName, DroppedBlank}
 use Rattle.pam_released.specs.Findings.{number_of}
-use Rattle.pam_findings.specs.host.Problems.{compare_places, kind_of, number_of_answer, number_of_kind, number_of_lack, place_of, rank_of}
-use Rattle.pam_findings.specs.host.Problems.{rank_of_argument, rank_of_fault, reaction_of, service_of}
+use Rattle.pam_findings.specs.host.Problems.{compare_places, kind_of, number_of_answer, number_of_anybody, number_of_kind, number_of_lack, number_of_nobody, place_of}
+use Rattle.pam_findings.specs.host.Problems.{rank_of, rank_of_argument, rank_of_fault, reaction_of, service_of}
 use Rattle.pam_findings.specs.host.inner.Table.{Puts, Removes, Table, finding_at}
 use Rattle.pam_findings.specs.declared.host.problem.ArgumentProblem.{ArgumentProblem}
 use Rattle.pam_findings.specs.declared.host.problem.ArgumentProblem.TheVariants as arguments
@@ -33,6 +28,7 @@ use Rattle.pam_findings.specs.declared.host.problem.Problem.{Problem}
 use Rattle.pam_findings.specs.declared.host.problem.Problem.TheVariants as problems
 use Rattle.pam_findings.specs.declared.host.problem.Spot.{Spot}
 use Rattle.pam_findings.specs.declared.host.report.Finding.{Finding}
+use Rattle.pam_findings.proofs.HostProofs.PlaceOrder.{exact_places, places_total}
 
 -- THE NUMBER OF A DIFFERENCE
 
@@ -74,12 +70,15 @@ lack_numbered n = slice_index_or (lacks.Program ∷ lacks.List ∷ lacks.Databas
 abbrev answer_numbered : ℕ → ℕ → Problem
 answer_numbered service n = problems.OtherAnswers service (kind_numbered (n / 4)) (nat_lt 1 (n % 4)) (nat_lt 0 (n % 2))
 
+abbrev named_numbered : Bool → ℕ → Option ℕ
+named_numbered is_named service = if is_named then Some service else None
+
 abbrev other_numbered : ℕ → ℕ → ℕ → Problem
 other_numbered n service kind =
     if nat_lt n 1 then problems.IncludedFromVendor (nat_lt 0 kind)
     else if nat_lt n 6 then problems.EmptySeparator
-    else if nat_lt n 12 then problems.LetsNobodyIn service (kind_numbered kind)
-    else if nat_lt n 13 then problems.LetsAnybodyIn service (nat_lt 0 kind)
+    else if nat_lt n 12 then problems.LetsNobodyIn (named_numbered (nat_lt 3 kind) service) (kind_numbered (kind % 4))
+    else if nat_lt n 13 then problems.LetsAnybodyIn (named_numbered (nat_lt 1 kind) service) (nat_lt 0 (kind % 2))
     else if nat_lt n 14 then problems.NeverAsked
     else if nat_lt n 15 then problems.JumpPastEnd
     else if nat_lt n 16 then problems.NoModule (nat_lt 0 kind)
@@ -93,6 +92,7 @@ other_numbered n service kind =
     else if nat_lt n 25 then problems.CallerIsRoot (nat_lt 0 kind)
     else if nat_lt n 29 then problems.Argument service (wrong_numbered (n - 25) kind)
     else if nat_lt n 30 then problems.BadArguments (lack_numbered kind)
+    else if nat_lt n 31 then problems.Argument service arguments.NoToken
     else if nat_lt n 33 then problems.NotCounted (nat_lt 0 kind)
     else if nat_lt n 34 then problems.Argument service arguments.Weak
     else if nat_lt n 36 then problems.UnknownModule
@@ -161,17 +161,25 @@ of_difference LongLine = refl
 of_difference EmptyModuleName = refl
 of_difference DroppedBlank = refl
 
-of_nobody : (service : ℕ) (kind : Kind) → problem_of 61 service (number_of_kind kind) ≡ problems.LetsNobodyIn service kind
+of_nobody : (service : Option ℕ) (kind : Kind) →
+    problem_of 61 (unwrap_or service 0) (number_of_nobody service kind) ≡ problems.LetsNobodyIn service kind
 unfolding problem_of
-of_nobody service Auth = refl
-of_nobody service Account = refl
-of_nobody service Password = refl
-of_nobody service Session = refl
+of_nobody None Auth = refl
+of_nobody None Account = refl
+of_nobody None Password = refl
+of_nobody None Session = refl
+of_nobody (Some service) Auth = refl
+of_nobody (Some service) Account = refl
+of_nobody (Some service) Password = refl
+of_nobody (Some service) Session = refl
 
-of_anybody : (service : ℕ) (is_greeter : Bool) → problem_of 62 service (if is_greeter then 1 else 0) ≡ problems.LetsAnybodyIn service is_greeter
+of_anybody : (service : Option ℕ) (is_greeter : Bool) →
+    problem_of 62 (unwrap_or service 0) (number_of_anybody service is_greeter) ≡ problems.LetsAnybodyIn service is_greeter
 unfolding problem_of
-of_anybody service true = refl
-of_anybody service false = refl
+of_anybody None true = refl
+of_anybody None false = refl
+of_anybody (Some service) true = refl
+of_anybody (Some service) false = refl
 
 of_large : (service : ℕ) (kind : Kind) → problem_of 69 service (number_of_kind kind) ≡ problems.TooLarge service kind
 unfolding problem_of
@@ -229,6 +237,7 @@ of_argument argument (arguments.Unknown Fails) = refl
 of_argument argument arguments.Longer = refl
 of_argument argument arguments.OtherKind = refl
 of_argument argument arguments.BadValue = refl
+of_argument argument arguments.NoToken = refl
 of_argument argument arguments.Weak = refl
 
 of_lack : (lack : Lack) → problem_of 79 0 (number_of_lack lack) ≡ problems.BadArguments lack
@@ -277,40 +286,6 @@ spot-from_place one other h =
     ap (λ (x : Option ℕ). let s : Spot = record { file = x; line = one.line; problem = one.problem } in s) file
     ∙ ap (λ (x : ℕ). let s : Spot = record { file = other.file; line = x; problem = one.problem } in s) line
     ∙ ap (λ (x : Problem). let s : Spot = record { file = other.file; line = other.line; problem = x } in s) problem
-
--- THE ORDER OF PLACES
-
-exact_options : CmpEqualImpliesEq (option_cmp nat_cmp)
-exact_options None None h = refl
-exact_options None (Some y) h = absurd cc
-exact_options (Some x) None h = absurd cc
-exact_options (Some x) (Some y) h = ap (λ n. Some n) (exact_unsigned x y h)
-
-parts_cmp : (x y : Option ℕ × (ℕ × (ℕ × (ℕ × ℕ)))) → Ordering
-parts_cmp x y =
-    ordering_then (option_cmp nat_cmp x.0 y.0) (ordering_then (nat_cmp x.1.0 y.1.0) (ordering_then (nat_cmp x.1.1.0 y.1.1.0)
-    (ordering_then (nat_cmp x.1.1.1.0 y.1.1.1.0) (nat_cmp x.1.1.1.1 y.1.1.1.1))))
-
-exact_parts : CmpEqualImpliesEq parts_cmp
-unfolding parts_cmp
-exact_parts = exact_pairs {B = ℕ × (ℕ × (ℕ × ℕ))} (option_cmp nat_cmp)
-    (λ x y. ordering_then (nat_cmp x.0 y.0) (ordering_then (nat_cmp x.1.0 y.1.0) (ordering_then (nat_cmp x.1.1.0 y.1.1.0) (nat_cmp x.1.1.1 y.1.1.1))))
-    exact_options
-    (exact_pairs {B = ℕ × (ℕ × ℕ)} nat_cmp (λ x y. ordering_then (nat_cmp x.0 y.0) (ordering_then (nat_cmp x.1.0 y.1.0) (nat_cmp x.1.1 y.1.1))) exact_unsigned
-    (exact_pairs {B = ℕ × ℕ} nat_cmp (λ x y. ordering_then (nat_cmp x.0 y.0) (nat_cmp x.1 y.1)) exact_unsigned
-    (exact_pairs {B = ℕ} nat_cmp nat_cmp exact_unsigned exact_unsigned)))
-
-pub exact_places : CmpEqualImpliesEq compare_places
-unfolding parts_cmp
-exact_places a b h =
-    ap (λ (x : Option ℕ × (ℕ × (ℕ × (ℕ × ℕ)))). let p : Place = record { file = x.0; line = x.1.0; rank = x.1.1.0; service = x.1.1.1.0; kind = x.1.1.1.1 } in p)
-    (exact_parts (a.file, (a.line, (a.rank, (a.service, a.kind)))) (b.file, (b.line, (b.rank, (b.service, b.kind)))) h)
-
-pub places_total : IsTotalOrder compare_places
-places_total =
-    then_total (on_total (λ (p : Place). p.file) (options_total nat_cmp_total)) (then_total (on_total (λ (p : Place). p.line) nat_cmp_total)
-    (then_total (on_total (λ (p : Place). p.rank) nat_cmp_total) (then_total (on_total (λ (p : Place). p.service) nat_cmp_total)
-    (on_total (λ (p : Place). p.kind) nat_cmp_total))))
 
 -- ONE FINDING IS PUT
 

@@ -35,7 +35,7 @@ use Rattle.pam_findings.specs.declared.host.stacks.Found.{Found}
 use Rattle.pam_findings.specs.declared.host.way_in.WayIn.{WayIn}
 use Rattle.pam_findings.proofs.HostProofs.CutOff.{cut-from, cut-to}
 use Rattle.pam_findings.proofs.HostProofs.Meeting.{alike-met}
-use Rattle.pam_findings.proofs.HostProofs.Places.{places_total}
+use Rattle.pam_findings.proofs.HostProofs.PlaceOrder.{places_total}
 use Rattle.pam_findings.proofs.HostProofs.Taking.{alike-finding, alike-shows}
 
 -- A PROBLEM OF A FILE IS NONE OF A STACK

@@ -6,6 +6,7 @@ use Rattle.pam_conf.specs.Files.{Folder}
 use Rattle.pam_conf.specs.Laws.{IsSound, StackIsSoundSurvey}
 use Rattle.pam_conf.specs.Resolution.{resolved}
 use Rattle.pam_conf.specs.Stack.{Items}
+use Rattle.pam_conf.specs.Targets.{is_target}
 use Rattle.pam_conf.specs.Survey.{SurveyText, surveyed}
 use Rattle.pam_conf.specs.declared.rule.Kind.{Kind}
 use Rattle.pam_conf.specs.declared.rule.Form.{Form}
@@ -19,7 +20,7 @@ use Rattle.pam_findings.specs.host.OtherAnswers.{HasOtherAnswer, is_only_include
 use Rattle.pam_findings.specs.host.inner.Looked.{Asks, Judges, Looks, OfModules}
 use Rattle.pam_findings.specs.host.inner.Meeting.{Changes, also_met}
 use Rattle.pam_findings.specs.host.Modules.{Modules}
-use Rattle.pam_findings.specs.host.StackProblems.{ByVerdict, InItems, InStack, InWalk, IsCutOff, StackAt, stack_at}
+use Rattle.pam_findings.specs.host.StackProblems.{ByVerdict, InItems, InStack, InWalk, IsCutOff, StackAt, named_in, stack_at}
 use Rattle.pam_findings.specs.host.inner.Table.{Adds, Notes, Puts, Table, with_stack}
 use Rattle.pam_findings.specs.host.Verdicts.{IsVerdict, Refused, Verdict, never_asked_in}
 use Rattle.pam_findings.specs.declared.host.judging.Stacked.{Stacked}
@@ -33,11 +34,14 @@ use Rattle.pam_findings.proofs.HostProofs.Passes.{puts-both, puts-iff, settles-s
 
 -- WHICH STACK
 
-same-stack : (service : ℕ) (kind : Kind) (home home' : Option ℕ) (included included' greeter greeter' : Bool) → home ≡ home' → included ≡ included' →
-    greeter ≡ greeter' →
-    (let one : StackAt = record { service = service; kind = kind; home = home; is_only_included = included; is_greeter = greeter } in
-    let other : StackAt = record { service = service; kind = kind; home = home'; is_only_included = included'; is_greeter = greeter' } in one ≡ other)
-same-stack service kind home home' included included' greeter greeter' h i g = cc
+same-stack : (service : ℕ) (kind : Kind) (named named' home home' : Option ℕ) (included included' target target' greeter greeter' : Bool) → named ≡ named' →
+    home ≡ home' → included ≡ included' → target ≡ target' → greeter ≡ greeter' →
+    (let one : StackAt =
+    record { service = service; kind = kind; named = named; home = home; is_only_included = included; is_included = target; is_greeter = greeter } in
+    let other : StackAt =
+    record { service = service; kind = kind; named = named'; home = home'; is_only_included = included'; is_included = target'; is_greeter = greeter' } in
+    one ≡ other)
+same-stack service kind named named' home home' included included' target target' greeter greeter' n h i t g = cc
 
 -- NOTHING BY A VERDICT THAT REFUSES
 
@@ -59,7 +63,7 @@ none-by-refused at spot problems.LeftOver h = h
 none-by-refused at spot problems.JumpIntoInclude h = h
 none-by-refused at spot problems.NoFunction h = h
 none-by-refused at spot (problems.CallerIsRoot is_daemon) h = h
-none-by-refused at spot (problems.Argument argument wrong) h = h
+none-by-refused at spot (problems.Argument argument wrong) h = h.2
 none-by-refused at spot (problems.BadArguments lack) h = h
 none-by-refused at spot problems.EmptySeparator h = h
 none-by-refused at spot problems.UnknownModule h = h
@@ -171,11 +175,12 @@ module _ (folder : Folder) (modules : Modules) (name : List ℕ) (service : ℕ)
   pub looks-judged : (items : Items) → survey.items ≡ Some items → (first second spots asked more : List Spot) →
       Adds (λ spot. InWalk survey.faults spot spot.problem) [] first →
       Adds (λ spot. InItems modules name kind (Some items) spot spot.problem) first second →
-      (told : Told) (home : Option ℕ) (included greeter : Bool) → home ≡ slice_get survey.reached 0 →
-      included ≡ is_only_included folder name survey → greeter ≡ is_greeter name →
-      (let at : Stacked = record { service = service; kind = kind; home = home; is_only_included = included; is_greeter = greeter } in
+      (told : Told) (named home : Option ℕ) (included target greeter : Bool) → named ≡ named_in folder.form service → home ≡ slice_get survey.reached 0 →
+      included ≡ is_only_included folder name survey → target ≡ is_target folder name → greeter ≡ is_greeter name →
+      (let at : Stacked =
+      record { service = service; kind = kind; named = named; home = home; is_only_included = included; is_included = target; is_greeter = greeter } in
       Judges folder modules name at items second spots asked more told → Looks folder modules name service kind survey spots asked more told)
-  looks-judged items there first second spots asked more h k told home included greeter is_home is_included is_a_greeter judged = record {
+  looks-judged items there first second spots asked more h k told named home included target greeter n at i t g judged = record {
     verdict = judged.verdict;
     is_verdict = judged.is_verdict;
     adds =
@@ -185,8 +190,8 @@ module _ (folder : Folder) (modules : Modules) (name : List ℕ) (service : ℕ)
         adds-iff (λ spot. (A spot ⊎ B spot) ⊎ C spot) (InStack folder modules service name kind survey judged.verdict) [] spots (parts items there judged.verdict)
         (adds-both (λ spot. A spot ⊎ B spot) C [] second spots (adds-both A B [] first second h k)
         (subst (λ (at : StackAt). Adds (λ spot. ByVerdict at judged.verdict spot spot.problem) second spots)
-        (same-stack service kind home (slice_get survey.reached 0) included (is_only_included folder name survey) greeter (is_greeter name)
-        is_home is_included is_a_greeter) judged.adds));
+        (same-stack service kind named (named_in folder.form service) home (slice_get survey.reached 0) included (is_only_included folder name survey)
+        target (is_target folder name) greeter (is_greeter name) n at i t g) judged.adds));
     asks = subst (λ (o : Option Items). Adds (Asks o judged.verdict) asked more) (sym there) judged.asks;
     tells = judged.tells;
   }

@@ -38,9 +38,10 @@ use Rattle.pam_findings.specs.host.Laws.{IsAskedFor, IsSilent, IsSoundStack, Sil
 use Rattle.pam_findings.specs.host.Levels.{level_of, level_of_fault}
 use Rattle.pam_findings.specs.host.Problems.{compare_places, place_of}
 use Rattle.pam_findings.specs.host.Report.{IsFound, IsReportOn}
-use Rattle.pam_findings.specs.host.StackProblems.{InItems, InWalk, SucceedsInVain}
+use Rattle.pam_findings.specs.host.StackProblems.{InItems, InWalk, SucceedsInVain, named_in}
 use Rattle.pam_findings.specs.host.inner.Table.{Table}
-use Rattle.pam_findings.specs.host.Verdicts.{IsJudgement, IsVerdict, Judged, Judgement, LetsNobody, Refused, SaysWhoLogsIn, TooLarge, Verdict, way_in_of}
+use Rattle.pam_findings.specs.host.Verdicts.{IsJudgement, IsVerdict, Judged, Judgement, LetsNobody, Refused, SaysWhoLogsIn, TooLarge, Verdict, causes_of}
+use Rattle.pam_findings.specs.host.Verdicts.{way_in_of}
 use Rattle.pam_findings.specs.declared.host.level.Level.TheVariants.{Note, Warning}
 use Rattle.pam_findings.specs.declared.host.problem.Place.{Place}
 use Rattle.pam_findings.specs.declared.host.problem.Problem.TheVariants as problems
@@ -50,7 +51,7 @@ use Rattle.pam_findings.specs.declared.host.way_in.WayIn.{WayIn}
 use Rattle.pam_conf.proofs.ServiceSteps.{no_faults}
 use Rattle.pam_findings.proofs.HostProofs.Counted.{asked-range, counts_or_not}
 use Rattle.pam_findings.proofs.HostProofs.Meeting.{to_front}
-use Rattle.pam_findings.proofs.HostProofs.Places.{exact_places, places_total}
+use Rattle.pam_findings.proofs.HostProofs.PlaceOrder.{exact_places, places_total}
 
 -- no fault is a note
 grave : (fault : FaultKind) → level_of_fault fault ≡ Note → ⊥
@@ -164,14 +165,18 @@ module _ (host : Host) (named : List (List ℕ)) (found : Table) (ways : List (O
 
     not-nobody : IsAskedFor host service kind → LetsNobody kind (report.verdicts service kind) → ⊥
     not-nobody asked h =
-        let spot : Spot = record { file = home; line = 0; problem = problems.LetsNobodyIn service kind } in
+        let named = named_in host.folder.form service in
+        let cause = (causes_of (report.verdicts service kind)).nobody in
+        let spot : Spot = record { file = cause; line = 0; problem = problems.LetsNobodyIn named kind } in
         let note : Warning ≡ Note = met-note spot service kind (within, inr (inl (inr (inr (refl, refl, (refl, refl), h, asked)))), λ e. absurd cc) in
         cc
 
     not-anybody : kind ≡ Auth → IsAskedFor host service kind → is_greeter (service_at host service) ≡ false →
         IsSome (way_in_of (report.verdicts service kind)) → ⊥
     not-anybody auth asked other h =
-        let spot : Spot = record { file = home; line = 0; problem = problems.LetsAnybodyIn service false } in
+        let named = named_in host.folder.form service in
+        let cause = (causes_of (report.verdicts service kind)).anybody in
+        let spot : Spot = record { file = cause; line = 0; problem = problems.LetsAnybodyIn named false } in
         let note : Warning ≡ Note =
         met-note spot service kind (within, inr (inl (inr (inr (refl, auth, (refl, refl), h, asked, sym other)))), λ e. absurd cc) in
         cc

@@ -10,7 +10,7 @@ use Rattle.pam_conf.specs.declared.rule.Kind.{Kind}
 use Rattle.pam_findings.specs.host.Arguments.{wrong_at, wrong_by}
 use Rattle.pam_findings.specs.host.inner.Looked.{spot_at}
 use Rattle.pam_findings.specs.host.inner.Table.{Adds}
-use Rattle.pam_findings.specs.host.inner.WrongArguments.{OfKnown, OfLack, OfNumbered, OfWrong}
+use Rattle.pam_findings.specs.host.inner.WrongArguments.{OfFound, OfKnown, OfLack, OfNumbered, OfWrong, found_at}
 use Rattle.pam_findings.specs.declared.host.problem.ArgumentProblem.{ArgumentProblem}
 use Rattle.pam_findings.specs.declared.host.problem.Problem.TheVariants as problems
 use Rattle.pam_findings.specs.declared.host.problem.Spot.{Spot}
@@ -78,24 +78,23 @@ no-word [] (suc n) h = refl
 no-word (x ∷ words) zero h = absurd (omega (arith, h))
 no-word (x ∷ words) (suc n) h = no-word words n (omega (arith, h))
 
-module _ (known : Module) (kind : Kind) (rule : ModuleText) where
+module _ (by_word : List ℕ → Option ArgumentProblem) (rule : ModuleText) where
   -- one more argument is looked at
   pub arguments-more : (n : ℕ) (word : List ℕ) (found : Option ArgumentProblem) (old middle new : List Spot) → slice_get rule.arguments n ≡ Some word →
-      found ≡ wrong_by (meaning known kind word) → Adds (OfFirst (OfNumbered (Some known) kind rule) n) old middle →
-      Adds (OfWrong rule n found) middle new → Adds (OfFirst (OfNumbered (Some known) kind rule) (n + 1)) old new
+      found ≡ by_word word → Adds (OfFirst (OfNumbered by_word rule) n) old middle →
+      Adds (OfWrong rule n found) middle new → Adds (OfFirst (OfNumbered by_word rule) (n + 1)) old new
   arguments-more n word found old middle new there is h k =
-      let here : found ≡ wrong_at (Some known) kind rule n =
-      is ∙ sym (ap (λ (o : Option (List ℕ)). option_and_then (λ w. wrong_by (meaning known kind w)) o) there) in
+      let here : found ≡ found_at by_word rule n = is ∙ sym (ap (option_and_then by_word) there) in
       let at : n ≡ (n + 1) - 1 = omega arith in
-      modules-more (OfNumbered (Some known) kind rule) n old middle new h
-      (subst (λ (p : ℕ). Adds (OfWrong rule p (wrong_at (Some known) kind rule p)) middle new) at
+      modules-more (OfNumbered by_word rule) n old middle new h
+      (subst (λ (p : ℕ). Adds (OfWrong rule p (found_at by_word rule p)) middle new) at
       (subst (λ (o : Option ArgumentProblem). Adds (OfWrong rule n o) middle new) here k))
 
   -- all are looked at
   pub arguments-all : (n : ℕ) (old new : List Spot) → length rule.arguments ≤ n →
-      Adds (OfFirst (OfNumbered (Some known) kind rule) n) old new → Adds (OfKnown (Some known) kind rule) old new
+      Adds (OfFirst (OfNumbered by_word rule) n) old new → Adds (OfFound by_word rule) old new
   arguments-all n old new all h =
-      adds-iff (OfFirst (OfNumbered (Some known) kind rule) n) (OfKnown (Some known) kind rule) old new
+      adds-iff (OfFirst (OfNumbered by_word rule) n) (OfFound by_word rule) old new
       (λ spot. (
         λ m. record { position = m.0 - 1; of = m.3 },
         λ k.
@@ -103,20 +102,26 @@ module _ (known : Module) (kind : Kind) (rule : ModuleText) where
               k.position + 1,
               omega arith,
               within spot k,
-              subst (λ (p : ℕ). OfWrong rule p (wrong_at (Some known) kind rule p) spot) at k.of,
+              subst (λ (p : ℕ). OfWrong rule p (found_at by_word rule p) spot) at k.of,
             ),
       ))
       h
     where
-      within : (spot : Spot) (k : OfKnown (Some known) kind rule spot) → k.position + 1 ≤ n
+      within : (spot : Spot) (k : OfFound by_word rule spot) → k.position + 1 ≤ n
       within spot k = elim (cases_lt k.position (length rule.arguments)) [
         | inl lt ↦ omega (arith, lt, all)
         | inr ge ↦
-            let none : wrong_at (Some known) kind rule k.position ≡ None =
-            ap (λ (o : Option (List ℕ)). option_and_then (λ w. wrong_by (meaning known kind w)) o) (no-word rule.arguments k.position ge) in
+            let none : found_at by_word rule k.position ≡ None = ap (option_and_then by_word) (no-word rule.arguments k.position ge) in
             let no : None ≡ Some k.of.wrong = sym none ∙ k.of.is in
             absurd cc
       ]
+
+-- of a module of which this is known
+pub arguments-known : (known : Module) (kind : Kind) (rule : ModuleText) (old new : List Spot) →
+    Adds (OfFound (λ word. wrong_by (meaning known kind word)) rule) old new → Adds (OfKnown (Some known) kind rule) old new
+arguments-known known kind rule old new h =
+    adds-iff (OfFound (λ word. wrong_by (meaning known kind word)) rule) (OfKnown (Some known) kind rule) old new
+    (λ spot. (λ f. record { position = f.position; of = f.of }, λ k. record { position = k.position; of = k.of })) h
 
 -- of a module of which nothing is known
 pub arguments-unknown : (kind : Kind) (rule : ModuleText) (known : Option Module) (spots : List Spot) → known ≡ None →

@@ -28,7 +28,7 @@ module _ (allows : Allowance) (items : Items) where
   never-unmarked number false says never = refl
 
 -- a module that is asked is one of the stack
-asks-range : (allows : Allowance) (items : Items) (number : ℕ) → IsNumbered items → Asks allows items number → (1 ≤ number) × (number ≤ module_count items)
+pub asks-range : (allows : Allowance) (items : Items) (number : ℕ) → IsNumbered items → Asks allows items number → (1 ≤ number) × (number ≤ module_count items)
 asks-range allows items number numbered a =
     let placed = asked-placed 0 items start_state start_state a.answers a.ask a.is_asked in
     let range = placed-range 1 placed.module_text a.ask.after items numbered placed.placed in

@@ -1,6 +1,6 @@
 -- What the definitions imply.
-use Rattle.std.specs.Prelude.{◌≡◌, ℕ, ◌<◌, Bool, true, false, All, List, length, map, slice_index_or, Option, Some, None, Ok}
-use Rattle.std.specs.BTreeMap.{BTreeMap}
+use Rattle.std.specs.Prelude.{◌≡◌, ℕ, ◌<◌, Bool, true, false, All, IsSome, List, length, map, slice_index_or, Option, Some, None, Ok}
+use Rattle.std.specs.BTreeMap.{BTreeMap, get}
 use Rattle.pam_arguments.specs.declared.lacks.Lack.{Lack}
 use Rattle.pam_findings.specs.stack.Asked.{AsksWith}
 use Rattle.pam_findings.specs.stack.Counting.{Counts}
@@ -17,16 +17,22 @@ use Rattle.pam_paths.specs.Listing.{Allowance, IsAllowed}
 use Rattle.pam_paths.specs.Paths.{PathValue}
 use Rattle.pam_paths.specs.declared.knowledge.Known.{Known}
 use Rattle.pam_findings.specs.host.Callers.{caller_is_root, is_daemon_service, is_greeter}
-use Rattle.pam_findings.specs.host.Host.{Host, service_at, survey_at}
+use Rattle.pam_findings.specs.host.Host.{Host, Meets, Verdicts, service_at, survey_at}
 use Rattle.pam_findings.specs.host.Arguments.{lack_in, wrong_argument}
 use Rattle.pam_findings.specs.host.Levels.{level_of, level_of_argument}
 use Rattle.pam_findings.specs.host.Links.{WithLinks}
 use Rattle.pam_findings.specs.host.OtherAnswers.{is_only_included}
-use Rattle.pam_findings.specs.host.Report.{IsReportOn}
-use Rattle.pam_findings.specs.host.Verdicts.{IsFailing, IsFree, IsOpen, SaysWhoLogsIn, answers_on}
+use Rattle.pam_findings.specs.host.Problems.{compare_places, place_of}
+use Rattle.pam_findings.specs.host.Report.{IsMetFinding, IsReportOn}
+use Rattle.pam_findings.specs.host.Verdicts.{IsCauseOf, IsFailing, IsFree, IsOpen, LetsNobody, SaysWhoLogsIn, answers_on, way_in_of}
+use Rattle.pam_findings.specs.declared.host.alone.Whole.{Whole}
+use Rattle.pam_findings.specs.declared.host.alone.Whole.TheVariants.{Anybody, Nobody}
 use Rattle.pam_findings.specs.declared.host.level.Level.TheVariants.{Note}
 use Rattle.pam_findings.specs.declared.host.problem.ArgumentProblem.{ArgumentProblem}
 use Rattle.pam_findings.specs.declared.host.problem.Place.{Place}
+use Rattle.pam_findings.specs.declared.host.problem.Problem.{Problem}
+use Rattle.pam_findings.specs.declared.host.problem.Problem.TheVariants as problems
+use Rattle.pam_findings.specs.declared.host.problem.Spot.{Spot}
 use Rattle.pam_findings.specs.declared.host.report.Finding.{Finding}
 use Rattle.pam_findings.specs.declared.host.way_in.Answered.{Answered}
 use Rattle.pam_findings.specs.declared.host.way_in.WayIn.{WayIn}
@@ -106,3 +112,39 @@ abbrev pub LinksAreNotes : Type 0
 LinksAreNotes =
     (host : Host) (named : List (List ℕ)) (old : BTreeMap Place Finding) (ways : List (Option WayIn)) → IsReportOn host named old ways →
     (outside : List Bool) (new : BTreeMap Place Finding) → WithLinks outside old new → IsSilent new → IsSilent old
+
+-- S1 OR S2 OF A STACK, for which a program may ask
+abbrev pub HasWhole : Host → Verdicts → Whole → ℕ → Kind → Type 0
+HasWhole host verdicts Nobody service kind = LetsNobody kind (verdicts service kind) × IsAskedFor host service kind
+HasWhole host verdicts Anybody service kind = (kind ≡ Auth) × IsSome (way_in_of (verdicts service kind)) × IsAskedFor host service kind
+
+-- S1 or S2 of a kind
+abbrev pub IsWhole : Whole → Kind → Problem → Type 0
+IsWhole Nobody kind (problems.LetsNobodyIn service of_kind) = of_kind ≡ kind
+IsWhole Anybody kind (problems.LetsAnybodyIn service is_greeter) = kind ≡ Auth
+IsWhole whole kind problem = ⊥
+
+-- A STACK HAS IT ONCE: in one finding, which is told at its cause; and there is no other that it meets
+pub record IsToldOnce (host : Host) (verdicts : Verdicts) (found : BTreeMap Place Finding) (whole : Whole) (service : ℕ) (kind : Kind) : Type 0 where
+  pub spot : Spot
+  pub is : IsWhole whole kind spot.problem
+  pub cause : IsCauseOf host.folder host.modules (service_at host service) kind whole spot.file
+  pub line : spot.line ≡ 0
+  pub finding : Finding
+  pub told : get compare_places found (place_of spot) ≡ Some finding
+  pub met : IsMetFinding (Meets host verdicts spot) spot finding
+  pub meets : Meets host verdicts spot service kind
+  pub only : (other : Spot) → IsWhole whole kind other.problem → Meets host verdicts other service kind → other ≡ spot
+
+-- each stack that has S1 or S2 has it once
+abbrev pub WholesAreToldOnce : Type 0
+WholesAreToldOnce =
+    (host : Host) (named : List (List ℕ)) (found : BTreeMap Place Finding) (ways : List (Option WayIn)) (report : IsReportOn host named found ways)
+    (whole : Whole) (service : ℕ) (kind : Kind) → service < length host.services → HasWhole host report.verdicts whole service kind →
+    IsToldOnce host report.verdicts found whole service kind
+
+-- and only such stacks meet S1 and S2
+abbrev pub OnlyWholesAreTold : Type 0
+OnlyWholesAreTold =
+    (host : Host) (verdicts : Verdicts) (whole : Whole) (service : ℕ) (kind of_kind : Kind) (spot : Spot) → IsWhole whole of_kind spot.problem →
+    Meets host verdicts spot service kind → (kind ≡ of_kind) × HasWhole host verdicts whole service kind

@@ -1,5 +1,5 @@
 -- The problems of a host, in the order in which they are listed.
-use Rattle.std.specs.Prelude.{ℕ, ◌+◌, ◌*◌, Bool, if◌then◌else◌}
+use Rattle.std.specs.Prelude.{ℕ, ◌+◌, ◌*◌, Bool, if◌then◌else◌, is_some, Option, unwrap_or}
 use Rattle.std.specs.Option.{option_cmp}
 use Rattle.std.specs.Ordering.{nat_cmp, ordering_then}
 use Rattle.std.specs.declared.cmp.Ordering.{Ordering}
@@ -50,6 +50,7 @@ rank_of_argument (arguments.Unknown reaction) = 75
 rank_of_argument arguments.Longer = 76
 rank_of_argument arguments.OtherKind = 77
 rank_of_argument arguments.BadValue = 78
+rank_of_argument arguments.NoToken = 80
 rank_of_argument arguments.Weak = 83
 
 -- E1 to E18 of lines come first, then those of walks, then L1 to L10, A5, and S1 to S27
@@ -90,6 +91,14 @@ abbrev pub number_of_answer : Kind → Bool → Bool → ℕ
 number_of_answer kind has_no_rule lets_nobody_in =
     4 * number_of_kind kind + (if has_no_rule then 2 else 0) + (if lets_nobody_in then 1 else 0)
 
+-- the number of a kind for which nobody is let in, and of whether a service is named
+abbrev pub number_of_nobody : Option ℕ → Kind → ℕ
+number_of_nobody service kind = number_of_kind kind + (if is_some service then 4 else 0)
+
+-- the number of whether greeters let anybody in, and of whether a service is named
+abbrev pub number_of_anybody : Option ℕ → Bool → ℕ
+number_of_anybody service is_greeter = (if is_greeter then 1 else 0) + (if is_some service then 2 else 0)
+
 abbrev pub number_of_reaction : Reaction → ℕ
 number_of_reaction Ignores = 0
 number_of_reaction Logs = 1
@@ -109,19 +118,20 @@ number_of_lack lacks.Condition = 4
 
 -- the service of a problem that names one, and the position of an argument
 abbrev pub service_of : Problem → ℕ
-service_of (problems.LetsNobodyIn service kind) = service
-service_of (problems.LetsAnybodyIn service is_greeter) = service
+service_of (problems.LetsNobodyIn service kind) = unwrap_or service 0
+service_of (problems.LetsAnybodyIn service is_greeter) = unwrap_or service 0
 service_of (problems.TooLarge service kind) = service
 service_of (problems.OtherAnswers service kind has_no_rule lets_nobody_in) = service
 service_of (problems.Argument argument wrong) = argument
 service_of problem = 0
 
--- the number of its kind, in S10 with what tells of `other`; L10 of an `@include` has another one than that of a rule with a kind, S2 of
--- a greeter than that of another service, S5 of a dashed rule than that of a rule without a dash, S14 of a daemon than that of another
--- service, S22 of a rule that counts than that of another, S15 has one for what the module does, and S19 one for what is lacking
+-- the number of its kind, in S10 with what tells of `other`; L10 of an `@include` has another one than that of a rule with a kind, S1 and
+-- S2 with a service than those without, S2 of a greeter than that of another service, S5 of a dashed rule than that of a rule without a
+-- dash, S14 of a daemon than that of another service, S22 of a rule that counts than that of another, S15 has one for what the module
+-- does, and S19 one for what is lacking
 abbrev pub kind_of : Problem → ℕ
-kind_of (problems.LetsNobodyIn service kind) = number_of_kind kind
-kind_of (problems.LetsAnybodyIn service is_greeter) = if is_greeter then 1 else 0
+kind_of (problems.LetsNobodyIn service kind) = number_of_nobody service kind
+kind_of (problems.LetsAnybodyIn service is_greeter) = number_of_anybody service is_greeter
 kind_of (problems.TooLarge service kind) = number_of_kind kind
 kind_of (problems.OtherAnswers service kind has_no_rule lets_nobody_in) = number_of_answer kind has_no_rule lets_nobody_in
 kind_of (problems.IncludedFromVendor is_at_include) = if is_at_include then 1 else 0

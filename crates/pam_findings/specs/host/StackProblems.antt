@@ -5,7 +5,10 @@ use Rattle.pam_conf.specs.Files.{Folder, bytes_at}
 use Rattle.pam_conf.specs.Rule.{RuleText}
 use Rattle.pam_conf.specs.Stack.{Items, ModuleText, module_at}
 use Rattle.pam_conf.specs.Survey.{SurveyText}
+use Rattle.pam_conf.specs.Targets.{is_target}
 use Rattle.pam_conf.specs.declared.conf_error.ConfError.{ConfError}
+use Rattle.pam_conf.specs.declared.rule.Form.{Form}
+use Rattle.pam_conf.specs.declared.rule.Form.TheVariants.{Dir, Single}
 use Rattle.pam_conf.specs.declared.rule.Kind.{Kind}
 use Rattle.pam_conf.specs.declared.rule.Kind.TheVariants.{Auth}
 use Rattle.pam_text.specs.Members.{Member}
@@ -17,9 +20,11 @@ use Rattle.pam_findings.specs.host.Faillock.{IsHalf}
 use Rattle.pam_findings.specs.host.Modules.{Modules}
 use Rattle.pam_findings.specs.host.OtherAnswers.{is_only_included}
 use Rattle.pam_findings.specs.host.Separators.{lacks_separator}
+use Rattle.pam_findings.specs.host.Tokens.{NoneAsksBefore, takes_at}
 use Rattle.pam_findings.specs.host.UnknownModules.{IsUnknown}
 use Rattle.pam_findings.specs.host.Verdicts.{Judged, Judgement, LetsNobody, Refused, SaysWhoLogsIn, TooLarge, Verdict}
-use Rattle.pam_findings.specs.host.Verdicts.{answers_on, has_no_function, is_missing, is_other, never_asked_in, way_in_of}
+use Rattle.pam_findings.specs.host.Verdicts.{answers_on, causes_of, has_no_function, is_missing, is_other, never_asked_in, way_in_of}
+use Rattle.pam_findings.specs.declared.host.problem.ArgumentProblem.TheVariants.{NoToken}
 use Rattle.pam_findings.specs.declared.host.problem.Problem.{Problem}
 use Rattle.pam_findings.specs.declared.host.problem.Problem.TheVariants as problems
 use Rattle.pam_findings.specs.declared.host.problem.Spot.{Spot}
@@ -98,47 +103,68 @@ SucceedsInVain TooLarge spot = ⊥
 SucceedsInVain (Judged j) spot =
     (j.nobody ≡ false) × HasModule j.items spot (λ number rule. Member number j.never_counts × SaysWhoLogsIn j.failing number)
 
+-- S20, but of a file that others include, before which they may ask: some run asks a module that by the argument at this position only takes a token that a module before it asked for; and no run asks
+-- a module that may ask for one before it
+abbrev pub TakesNone : Kind → Verdict → ℕ → Spot → Type 0
+TakesNone kind Refused argument spot = ⊥
+TakesNone kind TooLarge argument spot = ⊥
+TakesNone kind (Judged j) argument spot = HasModule j.items spot
+    (λ number rule. (takes_at kind rule argument ≡ true) × (Member number j.never_asked → ⊥) × NoneAsksBefore kind j number)
+
 -- S22: a rule of pam_faillock counts failures, or refuses who failed too often, and no run asks one that does the other
 abbrev pub CountsInVain : Verdict → Bool → Spot → Type 0
 CountsInVain Refused counts spot = ⊥
 CountsInVain TooLarge counts spot = ⊥
 CountsInVain (Judged j) counts spot = HasModule j.items spot (λ number rule. IsHalf j counts rule)
 
--- BY THE VERDICT on the stack of a service for a kind, where a whole stack is at line 0 of the file of its first rules
+-- BY THE VERDICT on the stack of a service for a kind, where a whole stack is at line 0 of the file of its first rules, and S1 and S2 are
+-- at line 0 of their cause
 
--- WHICH STACK: its service, by position, and its kind; the file of its first rules; whether the service is a file that is only included,
--- for which no program asks; and whether it is that of a greeter, whose own user alone asks
+-- WHICH STACK: its service, by position, and its kind; the service that S1 and S2 name; the file of its first rules; whether the service
+-- is a file that is only included, for which no program asks; whether others include its file; and whether it is that of a greeter, whose
+-- own user alone asks
 pub record StackAt : Type 0 where
   pub service : ℕ
   pub kind : Kind
+  pub named : Option ℕ
   pub home : Option ℕ
   pub is_only_included : Bool
+  pub is_included : Bool
   pub is_greeter : Bool
+
+-- in pam.conf the rules of all services are in one file
+abbrev pub named_in : Form → ℕ → Option ℕ
+named_in Dir service = None
+named_in Single service = Some service
 
 -- the stack of the service of this name, by its survey
 abbrev pub stack_at : Folder → ℕ → List ℕ → Kind → SurveyText → StackAt
 stack_at folder service name kind survey = record {
   service = service;
   kind = kind;
+  named = named_in folder.form service;
   home = slice_get survey.reached 0;
   is_only_included = is_only_included folder name survey;
+  is_included = is_target folder name;
   is_greeter = is_greeter name;
 }
 
 abbrev pub IsHome : Option ℕ → Spot → Type 0
 IsHome home spot = (spot.file ≡ home) × (spot.line ≡ 0)
 
--- S1, S2, S4, S9, S22 and S26
+-- S1, S2, S4, S9, S20, S22 and S26
 abbrev pub ByVerdict : StackAt → Verdict → Spot → Problem → Type 0
 ByVerdict at verdict spot (problems.LetsNobodyIn of_service of_kind) =
-    (of_service ≡ at.service) × (of_kind ≡ at.kind) × IsHome at.home spot × LetsNobody at.kind verdict × (at.is_only_included ≡ false)
+    (of_service ≡ at.named) × (of_kind ≡ at.kind) × IsHome (causes_of verdict).nobody spot × LetsNobody at.kind verdict × (at.is_only_included ≡ false)
 ByVerdict at verdict spot (problems.LetsAnybodyIn of_service of_greeter) =
-    (of_service ≡ at.service) × (at.kind ≡ Auth) × IsHome at.home spot × IsSome (way_in_of verdict) × (at.is_only_included ≡ false)
+    (of_service ≡ at.named) × (at.kind ≡ Auth) × IsHome (causes_of verdict).anybody spot × IsSome (way_in_of verdict) × (at.is_only_included ≡ false)
     × (of_greeter ≡ at.is_greeter)
 ByVerdict at verdict spot (problems.TooLarge of_service of_kind) =
     (of_service ≡ at.service) × (of_kind ≡ at.kind) × IsHome at.home spot × (verdict ≡ TooLarge)
 ByVerdict at verdict spot problems.JumpPastEnd = Jumps verdict spot
 ByVerdict at verdict spot problems.SuccessNeverCounts = (at.kind ≡ Auth) × SucceedsInVain verdict spot
+ByVerdict at verdict spot (problems.Argument argument wrong) =
+    (wrong ≡ NoToken) × (at.is_included ≡ false) × TakesNone at.kind verdict argument spot
 ByVerdict at verdict spot (problems.NotCounted counts) = (at.kind ≡ Auth) × CountsInVain verdict counts spot
 ByVerdict at verdict spot problem = ⊥
 

@@ -1,4 +1,5 @@
 -- What no public contract cites.
+pub mod Alone
 pub mod Besides
 pub mod Checking
 pub mod CutOff
@@ -12,4 +13,5 @@ pub mod OfFolder
 pub mod Own
 pub mod SoFar
 pub mod Table
+pub mod Taking
 pub mod WrongArguments

@@ -11,7 +11,7 @@ use Rattle.pam_conf.specs.declared.rule.Form.{Form}
 use Rattle.pam_facts.specs.Paths.{module_name}
 use Rattle.pam_facts.specs.known.Answers.{name_of_path}
 use Rattle.pam_findings.specs.declared.host.problem.ArgumentProblem.{ArgumentProblem}
-use Rattle.pam_findings.specs.declared.host.problem.ArgumentProblem.TheVariants.{BadValue, Longer, OtherKind, Unknown, Weak}
+use Rattle.pam_findings.specs.declared.host.problem.ArgumentProblem.TheVariants.{BadValue, Longer, NoToken, OtherKind, Unknown, Weak}
 use Rattle.pam_findings.specs.misspelled.Pairs.{wrong_in}
 use Rattle.pam_findings.specs.misspelled.Paths.{argument_in, path_in}
 use Rattle.pam_findings.specs.misspelled.RightWords.{nearest_module, nearest_right}
@@ -57,6 +57,7 @@ nearest_by (Unknown reaction) path word = nearest_known path word
 nearest_by Longer path word = nearest_known path word
 nearest_by OtherKind path word = None
 nearest_by BadValue path word = None
+nearest_by NoToken path word = None
 nearest_by Weak path word = None
 
 abbrev pub of_argument : ArgumentProblem → List ℕ → List ℕ → MisspelledText

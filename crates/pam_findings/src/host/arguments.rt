@@ -30,7 +30,7 @@ fn wrong_by(verdict: Verdict<'_>) -> Option<ArgumentProblem>
 }
 
 /// Appends what is wrong with the argument at a position, if something is.
-fn push_argument(
+pub(crate) fn push_argument(
     spots: &mut Vec<Spot>,
     module: &Module,
     argument: usize,

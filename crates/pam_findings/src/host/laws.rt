@@ -1,6 +1,7 @@
 //! Laws of the definitions that the contracts cite: each is the contract of an empty function.
 
-ghost use Rattle.pam_findings.specs.host.Laws.{FirstWayLetsIn, LinksAreNotes, SilentHostIsSound, WaysInLetIn};
+ghost use Rattle.pam_findings.specs.host.Laws.{FirstWayLetsIn, LinksAreNotes, OnlyWholesAreTold, SilentHostIsSound, WaysInLetIn};
+ghost use Rattle.pam_findings.specs.host.Laws.{WholesAreToldOnce};
 
 /// On a host with no finding at or above warning, each service that was checked has for each kind an accepted stack. Some
 /// answers of its modules let somebody in, unless they only deny and warn, or the stack begins with a denial that fails it. If it is
@@ -20,4 +21,11 @@ pub fn a_way_in_lets_in()
 /// S27 is a note, and takes no other finding away.
 pub fn links_are_notes()
     ensures { LinksAreNotes }
+{}
+
+/// S1 and S2 are told once, at their cause: each stack that has one of them is in exactly one finding of it, and each stack that such a
+/// finding names has it.
+pub fn wholes_are_told_once()
+    ensures once { WholesAreToldOnce }
+    ensures only { OnlyWholesAreTold }
 {}

@@ -42,6 +42,7 @@ fn level_of_argument(wrong: ArgumentProblem) -> Level
         ArgumentProblem::Unknown(_)
         | ArgumentProblem::Longer
         | ArgumentProblem::BadValue
+        | ArgumentProblem::NoToken
         | ArgumentProblem::Weak => Level::Warning,
     }
 }

@@ -1,7 +1,8 @@
 //! What can be wrong with a host, and where.
 
 ghost use Rattle.std.specs.Prelude.{◌≡◌, ◌≤◌};
-ghost use Rattle.pam_findings.specs.host.Problems.{kind_of, number_of_answer, number_of_kind, number_of_lack, number_of_reaction, place_of, rank_of};
+ghost use Rattle.pam_findings.specs.host.Problems.{kind_of, number_of_answer, number_of_anybody, number_of_kind, number_of_lack, number_of_nobody};
+ghost use Rattle.pam_findings.specs.host.Problems.{number_of_reaction, place_of, rank_of};
 ghost use Rattle.pam_findings.specs.host.Problems.{rank_of_argument, rank_of_control, rank_of_fault, reaction_of, service_of};
 
 use pam_arguments::{Lack, Reaction};
@@ -20,6 +21,8 @@ pub enum ArgumentProblem {
     OtherKind,
     /// S18: the module does not take its value.
     BadValue,
+    /// S20: by it the module takes only a password that a module before it asked for, and none does in any run.
+    NoToken,
     /// S23: with it the module stores passwords by a hash that is broken.
     Weak,
 }
@@ -41,17 +44,17 @@ pub enum Problem {
     /// A5: an argument `fieldsep=` or `listsep=` of pam_access has no value, which released Linux-PAM reads otherwise.
     EmptySeparator,
     /// S1: a stack with another module than `pam_deny.so` and `pam_warn.so`, which does not begin with a denial that fails it, never
-    /// decides success.
+    /// decides success. It is told at its cause.
     LetsNobodyIn {
-        /// The position of the service in `HostReport::services`.
-        service: usize,
+        /// In pam.conf the position of the service in `HostReport::services`; in a folder `None`, as the file is its cause.
+        service: Option<usize>,
         kind: Kind,
     },
-    /// S2: the `auth` stack of a service decides success although each module that checks who logs in fails.
+    /// S2: an `auth` stack decides success although each module that checks who logs in fails. It is told at its cause.
     LetsAnybodyIn {
-        /// The position of the service in `HostReport::services`.
-        service: usize,
-        /// Whether the service is that of a greeter, which asks for its own user alone.
+        /// In pam.conf the position of the service in `HostReport::services`; in a folder `None`, as the file is its cause.
+        service: Option<usize>,
+        /// Whether the services are those of greeters, which ask for their own users alone.
         is_greeter: bool,
     },
     /// S3: no answers ask a module, in any stack that its rule is in.
@@ -67,7 +70,7 @@ pub enum Problem {
     NoOther,
     /// S7: the name of a file has a capital letter, but services are looked up in lowercase, and no rule includes the file.
     UnreachableName,
-    /// S9: the graph of a stack has more nodes than the limit, so S1 to S4, S22 and S26 are not known for it.
+    /// S9: the graph of a stack has more nodes than the limit, so S1 to S4, S20, S22 and S26 are not known for it.
     TooLarge {
         /// The position of the service in `HostReport::services`.
         service: usize,
@@ -96,7 +99,7 @@ pub enum Problem {
         /// Whether the service is that of a daemon, which asks on behalf of whoever comes.
         is_daemon: bool,
     },
-    /// S15 to S18, S23: an argument is not one that the module takes, or not one to be written.
+    /// S15 to S18, S20, S23: an argument is not one that the module takes, or not one to be written.
     Argument {
         /// The position of the argument in the rule, from 0.
         argument: usize,
@@ -138,9 +141,10 @@ pub struct Place {
     pub rank: u8,
     /// The service of a problem that names one, and the position of an argument; else 0.
     pub service: usize,
-    /// The number of the kind of a problem that names one, which for S10 also tells why and how `other` answers; 1 for L10 of an
-    /// `@include`, for S2 of a greeter, for S5 of a dashed rule, for S14 of a daemon and for S22 of a rule that counts; for S15 the number of what the module
-    /// does, and for S19 of what is lacking; else 0.
+    /// The number of the kind of a problem that names one, which for S10 also tells why and how `other` answers, and for S1 whether a
+    /// service is named; for S2 the number of whether a service is named and whether it is a greeter; 1 for L10 of an `@include`, for S5
+    /// of a dashed rule, for S14 of a daemon and for S22 of a rule that counts; for S15 the number of what the module does, and for S19 of
+    /// what is lacking; else 0.
     pub kind: u8,
 }
 
@@ -180,7 +184,7 @@ fn rank_of_fault(fault: FaultKind) -> u8
     }
 }
 
-fn number_of_kind(kind: Kind) -> u8
+pub(crate) fn number_of_kind(kind: Kind) -> u8
     ensures value { result ≡ number_of_kind kind }
     ensures bound { result ≤ 3 }
 {
@@ -199,6 +203,23 @@ fn number_of_answer(kind: Kind, has_no_rule: bool, lets_nobody_in: bool) -> u8
     let reason = if has_no_rule { 2 } else { 0 };
     let outcome = if lets_nobody_in { 1 } else { 0 };
     4 * number_of_kind(kind) + reason + outcome
+}
+
+/// The number of a kind for which nobody is let in, and of whether a service is named.
+fn number_of_nobody(service: Option<usize>, kind: Kind) -> u8
+    ensures { result ≡ number_of_nobody service kind }
+{
+    let named = if service.is_some() { 4 } else { 0 };
+    number_of_kind(kind) + named
+}
+
+/// The number of whether greeters let anybody in, and of whether a service is named.
+fn number_of_anybody(service: Option<usize>, is_greeter: bool) -> u8
+    ensures { result ≡ number_of_anybody service is_greeter }
+{
+    let greeter = if is_greeter { 1 } else { 0 };
+    let named = if service.is_some() { 2 } else { 0 };
+    greeter + named
 }
 
 fn number_of_reaction(reaction: Reaction) -> u8
@@ -232,6 +253,7 @@ fn reaction_of(wrong: ArgumentProblem) -> u8
         ArgumentProblem::Longer
         | ArgumentProblem::OtherKind
         | ArgumentProblem::BadValue
+        | ArgumentProblem::NoToken
         | ArgumentProblem::Weak => 0,
     }
 }
@@ -244,6 +266,7 @@ fn rank_of_argument(wrong: ArgumentProblem) -> u8
         ArgumentProblem::Longer => 76,
         ArgumentProblem::OtherKind => 77,
         ArgumentProblem::BadValue => 78,
+        ArgumentProblem::NoToken => 80,
         ArgumentProblem::Weak => 83,
     }
 }
@@ -287,9 +310,10 @@ impl Problem {
         ensures kind { result.1 ≡ kind_of self }
     {
         match self {
-            Problem::LetsNobodyIn { service, kind } | Problem::TooLarge { service, kind } => {
-                (service, number_of_kind(kind))
+            Problem::LetsNobodyIn { service, kind } => {
+                (service.unwrap_or(0), number_of_nobody(service, kind))
             }
+            Problem::TooLarge { service, kind } => (service, number_of_kind(kind)),
             Problem::OtherAnswers {
                 service,
                 kind,
@@ -299,7 +323,7 @@ impl Problem {
             Problem::LetsAnybodyIn {
                 service,
                 is_greeter,
-            } => (service, u8::from(is_greeter)),
+            } => (service.unwrap_or(0), number_of_anybody(service, is_greeter)),
             Problem::IncludedFromVendor { is_at_include } => (0, u8::from(is_at_include)),
             Problem::NoModule { is_dashed } => (0, u8::from(is_dashed)),
             Problem::CallerIsRoot { is_daemon } => (0, u8::from(is_daemon)),

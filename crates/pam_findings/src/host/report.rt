@@ -88,6 +88,7 @@ impl HostReport {
             mut asked,
             readers,
             cut_off,
+            ..
         } = found;
         push_cut_off(alloc, &mut asked, &rules, cut_off)?;
         remove_all(&mut table, &asked);

@@ -2,24 +2,30 @@
 
 ghost use Rattle.std.specs.Prelude.{◌≡◌, ◌⊎◌, ℕ, IfOk, List, OnOk, None, [], length, slice_get};
 ghost use Rattle.std.proofs.Common.{replicate};
+ghost use Rattle.pam_conf.specs.Files.{Folder};
 ghost use Rattle.pam_conf.specs.Laws.{IsSound};
 ghost use Rattle.pam_conf.specs.Survey.{faults_at, surveyed};
 ghost use Rattle.pam_conf.specs.SurveyText.{survey_text};
+ghost use Rattle.pam_conf.specs.Targets.{is_target};
 ghost use Rattle.pam_conf.specs.declared.rule.Kind.{Kind as KindText};
 ghost use Rattle.pam_findings.specs.declared.host.problem.Spot.{Spot as SpotText};
 ghost use Rattle.pam_findings.specs.host.inner.Table.{Adds, ArePlaced, Puts, finding_at, with_stack};
 ghost use Rattle.pam_findings.specs.host.inner.SoFar.{SoFar, host_with};
 ghost use Rattle.pam_findings.specs.host.Beside.{beside};
 ghost use Rattle.pam_findings.specs.host.Callers.{is_greeter};
+ghost use Rattle.pam_findings.specs.host.Modules.{Modules as ModulesText};
+ghost use Rattle.pam_findings.specs.host.inner.Alone.{AreKnown};
 ghost use Rattle.pam_findings.specs.host.inner.Besides.{beside_text};
 ghost use Rattle.pam_findings.specs.host.inner.Checking.{AddsService, AddsStack};
 ghost use Rattle.pam_findings.specs.host.Inside.{HasJumpInside};
 ghost use Rattle.pam_findings.specs.host.OtherAnswers.{is_only_included};
 ghost use Rattle.pam_findings.specs.host.inner.Looked.{Looks};
-ghost use Rattle.pam_findings.specs.host.StackProblems.{InWalk};
+ghost use Rattle.pam_findings.specs.host.StackProblems.{InWalk, named_in};
 
+use crate::host::alone::{AloneTable, slots};
 use crate::host::beside::Beside;
 use crate::host::callers::is_greeter;
+use crate::host::causes::Walked;
 use crate::host::cut_off::with_cut_off;
 use crate::host::inside::jumps_inside;
 use crate::host::judging::{Stacked, Told, judge};
@@ -53,13 +59,14 @@ pub(crate) struct Checker<'x, 'f> {
 }
 
 /// What is found so far: the findings, where S3 is found of each rule that does not deny or only warn; S3 of each rule that a
-/// stack may ask; the stacks that read each file, by its position; and the stacks whose walk a limit ended.
+/// stack may ask; the stacks that read each file, by its position; the stacks whose walk a limit ended; and what is known of files by themselves.
 #[derive(Drop)]
 pub(crate) struct Found {
     pub table: Table,
     pub asked: Vec<Spot>,
     pub readers: Vec<Option<Met>>,
     pub cut_off: Option<Met>,
+    pub alone: AloneTable,
 }
 
 impl Found {
@@ -70,12 +77,14 @@ impl Found {
         ensures placed { IfOk result (λ f. ArePlaced f.table) }
         ensures asked { IfOk result (λ f. f.asked.items ≡ []) }
         ensures cut_off { IfOk result (λ f. f.cut_off ≡ None) }
+        ensures alone { (folder : Folder) (modules : ModulesText) → IfOk result (λ f. AreKnown folder modules f.alone.items) }
     {
         Ok(Found {
             table: BTreeMap::new(alloc),
             asked: Vec::new(alloc),
             readers: vec![in alloc; None; files]?,
             cut_off: None,
+            alone: vec![in alloc; None; slots(files)?]?,
         })
     }
 }
@@ -115,33 +124,52 @@ impl Checker<'_, '_> {
     /// The problems of a stack itself, the rules that it may ask, and what is told of it.
     fn look(
         &self,
-        spots: &mut Vec<Spot>,
+        table: &mut AloneTable,
         asked: &mut Vec<Spot>,
         at: Stacked,
         name: &[u8],
         survey: Survey,
-    ) -> Result<Told, AllocError>
-        requires none { spots.old.items ≡ [] }
+    ) -> Result<(Vec<Spot>, Told), AllocError>
+        requires known { AreKnown self.now.rules.now self.now.modules.now table.old.items }
+        requires named { at.named ≡ named_in self.now.files.now.form at.service }
         requires home { at.home ≡ slice_get (survey_text survey).reached 0 }
         requires included { at.is_only_included ≡ is_only_included self.now.rules.now name.now (survey_text survey) }
+        requires target { at.is_included ≡ is_target self.now.rules.now name.now }
         requires greeter { at.is_greeter ≡ is_greeter name.now }
-        ensures { survey_text survey ≡ surveyed self.now.rules.now name.now at.kind →
-            IfOk result (Looks self.now.rules.now self.now.modules.now name.now at.service at.kind (survey_text survey) spots.new.items
-            asked.old.items asked.new.items) }
+        ensures known { OnOk result (AreKnown self.now.rules.now self.now.modules.now table.new.items) }
+        ensures looks { survey_text survey ≡ surveyed self.now.rules.now name.now at.kind →
+            IfOk result (λ r. Looks self.now.rules.now self.now.modules.now name.now at.service at.kind (survey_text survey) r.0.items
+            asked.old.items asked.new.items r.1) }
     {
         stack_is_sound_survey();
         let is_sound = is_sound(self.rules, &survey);
-        push_walk(spots, &survey.faults)?;
-        let Survey { stack, .. } = survey;
+        let mut spots = Vec::new(self.alloc);
+        push_walk(&mut spots, &survey.faults)?;
+        let Survey { stack, reached, .. } = survey;
         let Some(stack) = stack else {
-            return Ok(Told::nothing());
+            return Ok((spots, Told::nothing()));
         };
-        push_modules(spots, self.modules, name, at.kind, &stack)?;
+        push_modules(&mut spots, self.modules, name, at.kind, &stack)?;
         if !is_sound {
             push_asked(asked, &stack, &[])?;
-            return Ok(Told::nothing());
+            return Ok((spots, Told::nothing()));
         }
-        judge(self.alloc, spots, asked, self.modules, at, stack)
+        let walked = Walked {
+            checker: self,
+            reached: &reached,
+        };
+        let told = judge(&walked, table, &mut spots, asked, at, stack)?;
+        Ok((spots, told))
+    }
+
+    /// The service that S1 and S2 of its stacks name: in pam.conf the rules of all services are in one file.
+    fn named(&self, service: usize) -> Option<usize>
+        ensures { result ≡ named_in self.now.files.now.form service }
+    {
+        match self.files.form() {
+            Form::Dir => None,
+            Form::Single => Some(service),
+        }
     }
 
     /// Adds what the stack of a service for a kind meets. Returns the first way in, if it is one of `auth`.
@@ -152,8 +180,10 @@ impl Checker<'_, '_> {
         name: &[u8],
         kind: Kind,
     ) -> Result<Option<WayIn>, AllocError>
-        requires { length found.old.readers.items ≡ length self.now.files.now.entries }
-        ensures { IfOk result (AddsStack self.now.files.now self.now.modules.now (beside_text self.now.beside.now kind) service name.now kind
+        requires readers { length found.old.readers.items ≡ length self.now.files.now.entries }
+        requires known { AreKnown self.now.rules.now self.now.modules.now found.old.alone.items }
+        ensures known { OnOk result (AreKnown self.now.rules.now self.now.modules.now found.new.alone.items) }
+        ensures adds { IfOk result (AddsStack self.now.files.now self.now.modules.now (beside_text self.now.beside.now kind) service name.now kind
             found.old found.new) }
     {
         let survey = self.rules.survey(self.alloc, name, kind)?;
@@ -169,14 +199,15 @@ impl Checker<'_, '_> {
         let at = Stacked {
             service,
             kind,
+            named: self.named(service),
             home: survey.reached.first().copied(),
             is_only_included: is_only_included(self.rules, name, &survey),
+            is_included: self.rules.is_target(name),
             is_greeter: is_greeter(name),
         };
         self.add_beside(&mut found.table, at, name, &survey)?;
         let left = other_answers(self, name, kind, &survey)?;
-        let mut spots = Vec::new(self.alloc);
-        let told = self.look(&mut spots, &mut found.asked, at, name, survey)?;
+        let (mut spots, told) = self.look(&mut found.alone, &mut found.asked, at, name, survey)?;
         push_other(&mut spots, at, left, told.lets_nobody_in)?;
         put_stack_at_all(&mut found.table, &spots, service, kind)?;
         Ok(told.way_in)
@@ -189,8 +220,10 @@ impl Checker<'_, '_> {
         service: usize,
         name: &[u8],
     ) -> Result<Option<WayIn>, AllocError>
-        requires { length found.old.readers.items ≡ length self.now.files.now.entries }
-        ensures { IfOk result (AddsService self.now.files.now self.now.modules.now (beside_text self.now.beside.now) service name.now found.old found.new) }
+        requires readers { length found.old.readers.items ≡ length self.now.files.now.entries }
+        requires known { AreKnown self.now.rules.now self.now.modules.now found.old.alone.items }
+        ensures known { OnOk result (AreKnown self.now.rules.now self.now.modules.now found.new.alone.items) }
+        ensures adds { IfOk result (AddsService self.now.files.now self.now.modules.now (beside_text self.now.beside.now) service name.now found.old found.new) }
     {
         let way = self.add_stack(found, service, name, Kind::Auth)?;
         let _ = self.add_stack(found, service, name, Kind::Account)?;
@@ -206,6 +239,7 @@ impl Checker<'_, '_> {
         services: &Texts,
     ) -> Result<Vec<Option<WayIn>>, AllocError>
         requires beside { (kind : KindText) → beside_text self.now.beside.now kind ≡ beside self.now.files.now services.now kind }
+        requires known { AreKnown self.now.rules.now self.now.modules.now found.old.alone.items }
         requires sofar { SoFar (host_with self.now.files.now self.now.vendor_start services.now self.now.modules.now) 0 found.old [] }
         ensures { IfOk result (λ ways. SoFar (host_with self.now.files.now self.now.vendor_start services.now self.now.modules.now)
             (length services.now) found.new ways.items) }

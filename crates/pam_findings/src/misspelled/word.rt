@@ -155,7 +155,10 @@ fn nearest_by(
         ArgumentProblem::Unknown(_) | ArgumentProblem::Longer => {
             nearest_known(alloc, arguments, path, word)
         }
-        ArgumentProblem::OtherKind | ArgumentProblem::BadValue | ArgumentProblem::Weak => Ok(None),
+        ArgumentProblem::OtherKind
+        | ArgumentProblem::BadValue
+        | ArgumentProblem::NoToken
+        | ArgumentProblem::Weak => Ok(None),
     }
 }
 

@@ -3,11 +3,14 @@
 ghost use Rattle.std.specs.Prelude.{◌≡◌, ℕ, ◌≤◌, [], IfErr, IfOk, filter, not};
 ghost use Rattle.std.specs.List.{range_with_len};
 ghost use Rattle.pam_conf.specs.declared.stack.TheConstants.{MAX_MODULES};
-ghost use Rattle.pam_conf.specs.Stack.{Items};
+ghost use Rattle.pam_conf.specs.Stack.{Items, module_count};
 ghost use Rattle.pam_graph.specs.declared.graph.TheConstants.{MAX_NODES};
 ghost use Rattle.pam_graph.specs.Order.{AreNodes};
 ghost use Rattle.pam_graph.specs.Reached.{IsReason};
+ghost use Rattle.pam_graph.specs.Walks.{walks};
 ghost use Rattle.pam_paths.specs.Known.{may_answer};
+ghost use Rattle.pam_paths.specs.Listing.{IsListing};
+ghost use Rattle.pam_paths.specs.Paths.{path_through};
 ghost use Rattle.pam_findings.specs.stack.inner.Counting.{AreCounting};
 ghost use Rattle.pam_findings.specs.stack.inner.Marks.{AreMarks, IsProgramOf, has_number, mark_of};
 ghost use Rattle.pam_findings.specs.stack.Soundness.{SaysNobody};
@@ -21,8 +24,10 @@ use pam_paths::Known;
 use std::alloc::{AllocError, Global};
 
 /// What the runs of a stack come to.
-#[derive(Clone, Copy)]
+#[derive(Drop)]
 pub(crate) struct Reached {
+    /// The graph of the runs.
+    pub(crate) graph: Graph,
     /// Whether no run decides success.
     pub(crate) lets_nobody_in: bool,
     /// The modules that some run asks.
@@ -49,16 +54,21 @@ impl Reached {
         ensures nobody { (items : Items) → IsProgramOf program.now items → IfOk result (λ r. SaysNobody (may_answer known.now) items r.lets_nobody_in) }
         ensures asked { (items : Items) → IsProgramOf program.now items → IfOk result (λ r. AreMarks (may_answer known.now) items r.asked) }
         ensures counting { (items : Items) → IsProgramOf program.now items → IfOk result (λ r. AreCounting (may_answer known.now) items r.counting) }
+        ensures graph { (items : Items) → IsProgramOf program.now items →
+            IfOk result (λ r. IsListing (may_answer known.now) (module_count items) (path_through items) (walks r.graph)) }
         ensures reason { IfErr result (IsReason MAX_NODES (may_answer known.now) program.now) }
     {
         // A program says with the number of its modules that they are asked in order.
         let _modules = program.modules();
         let graph = Graph::of(alloc, program, known)?;
         let lets_in = graph.is_met(alloc, &success())?;
+        let asked = marks_of(graph.nodes());
+        let counting = counting(alloc, &graph)?;
         Ok(Reached {
+            graph,
             lets_nobody_in: !lets_in,
-            asked: marks_of(graph.nodes()),
-            counting: counting(alloc, &graph)?,
+            asked,
+            counting,
         })
     }
 }

@@ -1,7 +1,11 @@
 //! What a stack does to everybody.
 
 ghost use Rattle.std.specs.Prelude.{IfErr, IfOk};
+ghost use Rattle.pam_conf.specs.Stack.{module_count};
+ghost use Rattle.pam_graph.specs.Walks.{walks};
 ghost use Rattle.pam_paths.specs.Known.{may_answer};
+ghost use Rattle.pam_paths.specs.Listing.{IsListing};
+ghost use Rattle.pam_paths.specs.Paths.{path_through};
 ghost use Rattle.pam_findings.specs.stack.Asked.{AreExactly, IsNeverAsked, JumpsPastEnd};
 ghost use Rattle.pam_findings.specs.stack.Counting.{NeverCounts};
 ghost use Rattle.pam_findings.specs.stack.inner.Counting.{AreCounting};
@@ -14,13 +18,15 @@ use crate::stack::past_end::passing;
 use crate::stack::way_in::first_way_in;
 use pam_conf::Stack;
 use pam_dispatch::Program;
-use pam_graph::GraphError;
+use pam_graph::{Graph, GraphError};
 use pam_paths::{Known, Path};
 use std::alloc::Global;
 
 /// What a stack does to everybody, whatever its modules answer.
 #[derive(Drop)]
 pub struct Soundness {
+    /// The graph of its runs.
+    pub graph: Graph,
     /// Whether it never decides success.
     pub lets_nobody_in: bool,
     /// The first path that decides success although the modules that check who logs in fail.
@@ -51,6 +57,7 @@ impl Searched {
         ensures anybody { IfOk result (λ t. SaysWayIn (may_answer failing.now) stack.now t.lets_anybody_in) }
         ensures asked { IfOk result (λ t. AreMarks (may_answer free.now) stack.now t.reached.asked) }
         ensures counting { IfOk result (λ t. AreCounting (may_answer free.now) stack.now t.reached.counting) }
+        ensures graph { IfOk result (λ t. IsListing (may_answer free.now) (module_count stack.now) (path_through stack.now) (walks t.reached.graph)) }
         ensures reason { IfErr result (IsReasonFor (may_answer free.now) (may_answer failing.now) stack.now) }
     {
         let program = Program::of(alloc, stack)?;
@@ -78,6 +85,7 @@ impl Soundness {
         ensures never_asked { IfOk result (λ s. AreExactly (IsNeverAsked (may_answer free.now) stack.now) s.never_asked.items) }
         ensures jumps { IfOk result (λ s. AreExactly (JumpsPastEnd (may_answer free.now) stack.now) s.jumps_past_end.items) }
         ensures never_counts { IfOk result (λ s. AreExactly (NeverCounts (may_answer free.now) stack.now) s.never_counts.items) }
+        ensures graph { IfOk result (λ s. IsListing (may_answer free.now) (module_count stack.now) (path_through stack.now) (walks s.graph)) }
         ensures reason { IfErr result (IsReasonFor (may_answer free.now) (may_answer failing.now) stack.now) }
     {
         let searched = Searched::of(alloc, stack, free, failing)?;
@@ -91,6 +99,7 @@ impl Soundness {
             &searched.reached.counting,
         )?;
         Ok(Soundness {
+            graph: searched.reached.graph,
             lets_nobody_in: searched.reached.lets_nobody_in,
             lets_anybody_in: searched.lets_anybody_in,
             never_asked,

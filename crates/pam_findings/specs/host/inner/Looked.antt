@@ -2,17 +2,23 @@
 use Rattle.std.specs.Prelude.{◌≡◌, ℕ, false, List, [], MatchOption, Option, Some}
 use Rattle.pam_findings.specs.declared.stack.soundness.Soundness.{Soundness}
 use Rattle.pam_conf.specs.Files.{Folder}
-use Rattle.pam_conf.specs.Stack.{Items, ModuleText, module_at}
+use Rattle.pam_conf.specs.Stack.{Items, ModuleText, module_at, module_count}
 use Rattle.pam_conf.specs.Survey.{SurveyText}
 use Rattle.pam_conf.specs.declared.conf_error.ConfError.{ConfError}
 use Rattle.pam_conf.specs.declared.rule.Kind.{Kind}
 use Rattle.pam_conf.specs.declared.rule.Kind.TheVariants.{Auth}
+use Rattle.pam_graph.specs.Walks.{walks}
+use Rattle.pam_paths.specs.Known.{may_answer}
+use Rattle.pam_paths.specs.Listing.{IsListing}
+use Rattle.pam_paths.specs.Paths.{path_through}
 use Rattle.pam_paths.specs.declared.knowledge.Known.{Known}
 use Rattle.pam_text.specs.Members.{Member}
 use Rattle.pam_findings.specs.host.Modules.{Modules}
 use Rattle.pam_findings.specs.host.StackProblems.{ByVerdict, HasWayIn, InStack, IsAt, MayAsk, ModuleHas, StackAt}
 use Rattle.pam_findings.specs.host.inner.Table.{Adds}
 use Rattle.pam_findings.specs.host.Verdicts.{IsVerdict, Judgement, SaysWhoLogsIn, Verdict, refuses_all}
+use Rattle.pam_findings.specs.declared.host.causes.Causes.{Causes}
+use Rattle.pam_findings.specs.declared.host.judging.Judging.{Judging}
 use Rattle.pam_findings.specs.declared.host.judging.Stacked.{Stacked}
 use Rattle.pam_findings.specs.declared.host.judging.Told.{Told}
 use Rattle.pam_findings.specs.declared.host.problem.Problem.{Problem}
@@ -48,8 +54,8 @@ abbrev pub OfNumber : Modules → List ℕ → Kind → Items → ℕ → Spot �
 OfNumber modules name kind items number spot = MatchOption (module_at number items) ⊥ (λ rule. OfRule modules name kind rule spot)
 
 -- what the runs of a stack come to, as a judgement
-abbrev pub judgement_of : Items → Known → Known → Soundness → Judgement
-judgement_of items free failing s = record {
+abbrev pub judgement_of : Items → Known → Known → Soundness → Causes → Judgement
+judgement_of items free failing s causes = record {
   items = items;
   free = free;
   failing = failing;
@@ -58,7 +64,16 @@ judgement_of items free failing s = record {
   never_asked = s.never_asked.items;
   jumps = s.jumps_past_end.items;
   never_counts = s.never_counts.items;
+  causes = causes;
 }
+
+-- the judgement on a stack
+abbrev pub judgement_in : Judging → Judgement
+judgement_in of = judgement_of of.stack.now of.free.now of.failing.now of.soundness.now of.causes
+
+-- the graph of a stack has its runs
+abbrev pub HasGraph : Judging → Type 0
+HasGraph of = IsListing (may_answer of.free.now) (module_count of.stack.now) (path_through of.stack.now) (walks of.soundness.now.graph)
 
 -- S26 of a module of a stack that is judged
 pub record VainIn (kind : Kind) (j : Judgement) (spot : Spot) : Type 0 where
@@ -81,8 +96,10 @@ abbrev pub at_of : Stacked → StackAt
 at_of at = record {
   service = at.service;
   kind = at.kind;
+  named = at.named;
   home = at.home;
   is_only_included = at.is_only_included;
+  is_included = at.is_included;
   is_greeter = at.is_greeter;
 }
 

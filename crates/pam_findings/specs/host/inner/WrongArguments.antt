@@ -1,5 +1,6 @@
 -- For private contracts and proofs alone: the wrong arguments of a rule, as they are looked for.
-use Rattle.std.specs.Prelude.{◌≡◌, ◌⊎◌, ◌-◌, ℕ, Option, Some}
+use Rattle.std.specs.Prelude.{◌≡◌, ◌⊎◌, ◌-◌, ℕ, List, Option, Some, slice_get}
+use Rattle.std.specs.Option.{option_and_then}
 use Rattle.pam_arguments.specs.Verdicts.{Module}
 use Rattle.pam_arguments.specs.declared.lacks.Lack.{Lack}
 use Rattle.pam_conf.specs.Stack.{ModuleText}
@@ -21,9 +22,18 @@ pub record OfKnown (known : Option Module) (kind : Kind) (rule : ModuleText) (sp
   pub position : ℕ
   pub of : OfWrong rule position (wrong_at known kind rule position) spot
 
+-- what is found of the argument at a position, where this is found of each word
+abbrev pub found_at : (List ℕ → Option ArgumentProblem) → ModuleText → ℕ → Option ArgumentProblem
+found_at by_word rule position = option_and_then by_word (slice_get rule.arguments position)
+
+-- the problem of some argument
+pub record OfFound (by_word : List ℕ → Option ArgumentProblem) (rule : ModuleText) (spot : Spot) : Type 0 where
+  pub position : ℕ
+  pub of : OfWrong rule position (found_at by_word rule position) spot
+
 -- that of the argument with this number, from 1
-abbrev pub OfNumbered : Option Module → Kind → ModuleText → ℕ → Spot → Type 0
-OfNumbered known kind rule number spot = OfWrong rule (number - 1) (wrong_at known kind rule (number - 1)) spot
+abbrev pub OfNumbered : (List ℕ → Option ArgumentProblem) → ModuleText → ℕ → Spot → Type 0
+OfNumbered by_word rule number spot = OfWrong rule (number - 1) (found_at by_word rule (number - 1)) spot
 
 -- what the arguments lack, if they lack something
 pub record OfLack (found : Option Lack) (rule : ModuleText) (spot : Spot) : Type 0 where

@@ -20,6 +20,9 @@ pub add_all-requires-clause-beside : goal.add_all-requires-clause-beside
 add_all-requires-clause-beside c = λ kind.
     c.in_ok-beside.ensures kind ∙ ap (λ (f : Folder). beside f c.in_ok-services.services kind) c.in_ok-rules.ensures
 
+pub add_all-requires-clause-known : goal.add_all-requires-clause-known
+add_all-requires-clause-known c = c.in_ok-found.ensures.alone c.in_ok-rules.rules c.new-modules.result
+
 pub add_all-requires-clause-sofar : goal.add_all-requires-clause-sofar
 add_all-requires-clause-sofar c =
     take-none (host_with c.args.files.now c.args.vendor_start c.in_ok-services.services c.new-modules.result) c.in_ok-found.found

@@ -22,13 +22,14 @@ loop-name-preserved c =
     let number = c.len.ensures ∙ c.loop-name.ways_in.ok.0 in
     let other = beside_text c.args.self.now.beside.now in
     let adds = subst (λ (l : List ℕ). AddsService files modules other n l old new way) (sym next.0)
-    (subst (λ (m : ℕ). AddsService files modules other m name old new way) number c.in_ok-way.ensures) in
+    (subst (λ (m : ℕ). AddsService files modules other m name old new way) number c.in_ok-way.ensures.adds) in
     let taken = take-service host n old new ways way c.loop-name.invariant.taken other c.requires.beside adds in
     let pushed = c.in_ok-push.ensures.items in
     let counted = subst (λ (m : ℕ). SoFar host m new (ways ++ way ∷ [])) (sym taken.count) taken in
     record {
       taken = subst (λ (l : List (Option WayIn)). SoFar host (length l) new l) (sym pushed) counted;
       within = subst (λ (l : List (Option WayIn)). length l ≤ length services) (sym pushed) (omega (arith, next.2, taken.count));
+      known = c.in_ok-way.ensures.known;
       left = subst (λ (l : List (Option WayIn)). drop (length l) services ≡ c.next.new.self) (sym pushed)
           (subst (λ (m : ℕ). drop m services ≡ c.next.new.self) (sym taken.count) next.1);
     }

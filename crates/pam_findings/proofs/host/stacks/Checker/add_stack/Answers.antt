@@ -14,8 +14,8 @@ use Rattle.pam_findings.proofs.HostProofs.Others.{adds-answer}
 use Rattle.pam_findings.proofs.HostProofs.Seen.{adds-stack}
 use Rattle.pam_findings.proofs.host.stacks.Checker.add_stack.Goals as goal
 
-pub returns : goal.returns
-returns c =
+pub returns-clause-adds : goal.returns-clause-adds
+returns-clause-adds c =
     let readers = c.args.found.now.readers in
     let rules = c.args.self.now.rules.now in
     let reached = c.deref.result.now ++ c.deref-2.result.now in
@@ -25,30 +25,33 @@ returns c =
     let at : Stacked = record {
       service = c.args.service;
       kind = c.args.kind;
+      named = c.named.result;
       home = c.copied.result;
       is_only_included = c.is_only_included.result;
+      is_included = c.is_target.result;
       is_greeter = c.is_greeter.result;
     } in
-    let looks = c.in_ok-told.ensures c.in_ok-survey.ensures in
+    let looks = c.in_ok-spots.ensures.looks c.in_ok-survey.ensures in
     let is_home : c.copied.result ≡ slice_get (surveyed rules c.args.name.now c.args.kind).reached 0 =
     c.copied.ensures ∙ c.first.ensures.value ∙ ap (λ (l : List ℕ). slice_get l 0)
     (c.deref-3.ensures.value ∙ ap (λ (s : SurveyText). s.reached) c.in_ok-survey.ensures) in
     let kept = with_items_is readers c.note_read.new.readers (noted.count ∙ sym readers.ok.0) in
     adds-stack c.args.self.now.files.now rules c.args.self.now.modules.now (beside_text c.args.self.now.beside.now c.args.kind) c.args.service
     c.args.name.now c.args.kind
-    (survey_text c.in_ok-survey.survey) c.look.new.spots.items c.push_other.new.spots.items c.add_beside.new.table c.in_ok-told.told c.args.found.now
+    (survey_text c.in_ok-survey.survey) c.in_ok-spots.spots.items c.push_other.new.spots.items c.add_beside.new.table c.in_ok-spots.told c.args.found.now
     (record {
       table = c.put_stack_at_all.new.table;
       asked = c.look.new.asked;
       readers = with_items readers c.note_read.new.readers;
       cut_off = c.in_ok-found.field-0;
+      alone = c.look.new.table;
     })
     c.form.result c.deref.result.now c.deref-2.result.now c.args.self.now.same c.in_ok-survey.ensures c.form.ensures c.deref.ensures.value
-    (c.deref-2.ensures.value ∙ ap (λ (s : SurveyText). s.reached) c.of_kind.ensures) c.requires
+    (c.deref-2.ensures.value ∙ ap (λ (s : SurveyText). s.reached) c.of_kind.ensures) c.requires.readers
     looks
-    (adds-answer rules c.args.name.now at c.in_ok-told.told.lets_nobody_in looks.verdict
+    (adds-answer rules c.args.name.now at c.in_ok-spots.told.lets_nobody_in looks.verdict
     is_home looks.tells.nobody
-    c.in_ok-left.left (c.in_ok-left.ensures c.in_ok-survey.ensures) c.look.new.spots.items c.push_other.new.spots.items c.in_ok-push_other.ensures)
+    c.in_ok-left.left (c.in_ok-left.ensures c.in_ok-survey.ensures) c.in_ok-spots.spots.items c.push_other.new.spots.items c.in_ok-push_other.ensures)
     c.in_ok-add_beside.ensures
     (subst (λ (l : List Spot). Puts (λ spot. Member spot l) (with_stack c.args.service c.args.kind) c.add_beside.new.table c.put_stack_at_all.new.table)
     c.deref-4.ensures.value c.in_ok-put_stack_at_all.ensures)

@@ -1,14 +1,16 @@
-use Rattle.std.proofs.Common.{◌∙◌, subst, sym}
+use Rattle.std.proofs.Common.{◌∙◌, ap, subst, sym}
 use Rattle.std.proofs.lemmas.Bool.{false≢true}
-use Rattle.std.proofs.lemmas.Result.{IfOk-weaker}
+use Rattle.pam_conf.specs.Files.{Folder}
+use Rattle.pam_conf.specs.Survey.{SurveyText}
 use Rattle.pam_conf.specs.SurveyText.{survey_text}
-use Rattle.pam_findings.specs.host.inner.Looked.{Judges, Looks}
+use Rattle.pam_findings.specs.host.StackProblems.{named_in}
+use Rattle.pam_findings.specs.host.inner.Looked.{Looks}
 use Rattle.pam_findings.proofs.HostProofs.Adding.{walk-seen}
 use Rattle.pam_findings.proofs.HostProofs.Seen.{looks-judged, looks-none, looks-unsound, stack-of}
 use Rattle.pam_findings.proofs.host.stacks.Checker.look.Goals as goal
 
-pub returns-in_default : goal.returns-in_default
-returns-in_default c is =
+pub returns-in_default-clause-looks : goal.returns-in_default-clause-looks
+returns-in_default-clause-looks c is =
     let rules = c.args.self.now.rules.now in
     let at = c.args.at in
     let asked = c.args.asked.now.items in
@@ -16,11 +18,11 @@ returns-in_default c is =
     (sym c.nothing.ensures)
     (looks-none c.args.self.now.rules.now c.args.self.now.modules.now c.args.name.now c.args.at.service c.args.at.kind (survey_text c.args.survey) is
     c.stack_is_sound_survey.ensures.sound c.in_default.is c.push_walk.new.spots.items c.args.asked.now.items
-    (walk-seen c.args.survey.faults.items c.deref.result.now c.args.spots.now.items c.push_walk.new.spots.items c.requires.none c.deref.ensures.value
-    c.in_ok-push_walk.ensures))
+    (walk-seen c.args.survey.faults.items c.deref.result.now c.new-spots.result.items c.push_walk.new.spots.items c.new-spots.ensures.items
+    c.deref.ensures.value c.in_ok-push_walk.ensures))
 
-pub returns-then-not-is_sound : goal.returns-then-not-is_sound
-returns-then-not-is_sound c is =
+pub returns-then-not-is_sound-clause-looks : goal.returns-then-not-is_sound-clause-looks
+returns-then-not-is_sound-clause-looks c is =
     let rules = c.args.self.now.rules.now in
     let at = c.args.at in
     subst (Looks rules c.args.self.now.modules.now c.args.name.now at.service at.kind (survey_text c.args.survey) c.push_modules.new.spots.items
@@ -29,12 +31,12 @@ returns-then-not-is_sound c is =
     c.stack_is_sound_survey.ensures.sound c.in-Some.stack c.in-Some.is
     (λ s. false≢true (sym c.if-not-is_sound.true ∙ c.is_sound-is_sound.ensures.1 s))
     c.push_walk.new.spots.items c.push_modules.new.spots.items c.args.asked.now.items c.push_asked.new.asked.items
-    (walk-seen c.args.survey.faults.items c.deref.result.now c.args.spots.now.items c.push_walk.new.spots.items c.requires.none c.deref.ensures.value
-    c.in_ok-push_walk.ensures)
+    (walk-seen c.args.survey.faults.items c.deref.result.now c.new-spots.result.items c.push_walk.new.spots.items c.new-spots.ensures.items
+    c.deref.ensures.value c.in_ok-push_walk.ensures)
     c.in_ok-push_modules.ensures c.in_ok-push_asked.ensures)
 
-pub returns : goal.returns
-returns c is =
+pub returns-clause-looks : goal.returns-clause-looks
+returns-clause-looks c is =
     let rules = c.args.self.now.rules.now in
     let modules = c.args.self.now.modules.now in
     let survey = survey_text c.args.survey in
@@ -46,12 +48,11 @@ returns c is =
     let spots = c.judge.new.spots.items in
     let asked = c.args.asked.now.items in
     let more = c.judge.new.asked.items in
-    IfOk-weaker c.judge.result (Judges rules modules name at c.in-Some.stack second spots asked more)
-    (Looks rules modules name at.service at.kind survey spots asked more)
-    (λ told judged.
     looks-judged rules modules name at.service at.kind survey is c.stack_is_sound_survey.ensures.sound c.in-Some.stack c.in-Some.is
     c.push_walk.new.spots.items second spots asked more
-    (walk-seen c.args.survey.faults.items c.deref.result.now c.args.spots.now.items c.push_walk.new.spots.items c.requires.none c.deref.ensures.value
-    c.in_ok-push_walk.ensures)
-    c.in_ok-push_modules.ensures told at.home at.is_only_included at.is_greeter c.requires.home c.requires.included c.requires.greeter judged)
-    (c.judge.ensures rules name stack)
+    (walk-seen c.args.survey.faults.items c.deref.result.now c.new-spots.result.items c.push_walk.new.spots.items c.new-spots.ensures.items
+    c.deref.ensures.value c.in_ok-push_walk.ensures)
+    c.in_ok-push_modules.ensures c.in_ok-told.told at.named at.home at.is_only_included at.is_included at.is_greeter
+    (c.requires.named ∙ ap (λ (f : Folder). named_in f.form at.service) (sym c.args.self.now.same)) c.requires.home c.requires.included c.requires.target
+    c.requires.greeter
+    (c.in_ok-told.ensures.judges name stack (c.deref-2.ensures.value ∙ ap (λ (s : SurveyText). s.reached) is))

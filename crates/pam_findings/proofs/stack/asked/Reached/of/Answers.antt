@@ -26,7 +26,7 @@ returns-clause-asked c items of number from =
     let graph = c.in_ok-graph.graph in
     says-asked allows program items of c.modules-modules.ensures.rise (λ m first last. some_code c.args.known.now m) graph.nodes graph.start number _
     c.in_ok-graph.ensures.nodes (c.in_ok-graph.ensures.stack items of.runs)
-    (c.marks_of.ensures number from ∙ ap (has_number number) c.nodes.ensures.nodes)
+    (c.marks_of-asked.ensures number from ∙ ap (has_number number) c.nodes.ensures.nodes)
 
 pub returns-clause-counting : goal.returns-clause-counting
 returns-clause-counting c items of number from may =
@@ -35,3 +35,8 @@ returns-clause-counting c items of number from may =
     let graph = c.in_ok-graph.graph in
     says-counts allows program items of c.modules-modules.ensures.rise graph.nodes c.nodes.ensures.order c.in_ok-graph.ensures.nodes graph.start number _
     (c.in_ok-graph.ensures.stack items of.runs) (c.in_ok-counting.ensures number from) may
+
+pub returns-clause-graph : goal.returns-clause-graph
+returns-clause-graph c items of =
+    let graph = c.in_ok-graph.graph in
+    listing-of (may_answer c.args.known.now) c.args.program.now items of graph.nodes graph.start (c.in_ok-graph.ensures.stack items of.runs)
