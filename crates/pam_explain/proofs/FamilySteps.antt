@@ -7,8 +7,6 @@ use Rattle.std.specs.List.{list_all}
 use Rattle.std.specs.Option.{option_map}
 use Rattle.pam_explain.specs.Explanation.{Explanation}
 use Rattle.pam_explain.specs.Explanations.{explanations, families, rows_of}
-use Rattle.pam_explain.specs.Views.{explanation_view}
-use Rattle.pam_explain.specs.declared.explanation.Explanation.{Explanation as Declared}
 
 -- ---- a row of a list
 
@@ -70,39 +68,40 @@ none_left ((r ∷ rs) ∷ xs) (suc n) h e = none_left xs n h e
 abbrev pub rows_after : ℕ → ℕ → List Explanation
 rows_after family row = drop row (get_or families family []) ++ rows_of (drop (family + 1) families)
 
-module _ (family row next : ℕ) (found : Option Declared) (is : option_map explanation_view found ≡ slice_get (get_or families family []) row) where
+module _ {X : Type 0} (view : X → Explanation) (family row next : ℕ) (found : Option X)
+    (is : option_map view found ≡ slice_get (get_or families family []) row) where
   -- the family has one more row
-  pub same_family : (first : Declared) → found ≡ Some first → next ≡ min (row + 1) 18446744073709551615 →
-      rows_after family row ≡ explanation_view first ∷ rows_after family next
+  pub same_family : (first : X) → found ≡ Some first → next ≡ min (row + 1) 18446744073709551615 →
+      rows_after family row ≡ view first ∷ rows_after family next
   same_family first some step =
-      let there = row_there (get_or families family []) row (explanation_view first) (sym is ∙ ap (option_map explanation_view) some) in
+      let there = row_there (get_or families family []) row (view first) (sym is ∙ ap (option_map view) some) in
       let short = short_at families family in
       let few = all_are_few in
       let one : suc row ≡ next = omega (arith, step, there.1, short, few) in
       ap (λ (rows : List Explanation). rows ++ rows_of (drop (family + 1) families)) there.0
-      ∙ ap (λ (k : ℕ). explanation_view first ∷ rows_after family k) one
+      ∙ ap (λ (k : ℕ). view first ∷ rows_after family k) one
 
   none_here : found ≡ None → rows_after family row ≡ rows_of (drop (family + 1) families)
   none_here none =
       ap (λ (rows : List Explanation). rows ++ rows_of (drop (family + 1) families))
-      (row_past (get_or families family []) row (sym is ∙ ap (option_map explanation_view) none))
+      (row_past (get_or families family []) row (sym is ∙ ap (option_map view) none))
 
-  module _ (later : Option Declared) (then : option_map explanation_view later ≡ slice_get (get_or families next []) 0) (none : found ≡ None)
+  module _ (later : Option X) (then : option_map view later ≡ slice_get (get_or families next []) 0) (none : found ≡ None)
       (step : next ≡ min (family + 1) 255) where
     -- it has none, and the next one has a row
-    pub next_family : (first : Declared) → later ≡ Some first → rows_after family row ≡ explanation_view first ∷ rows_after next 1
+    pub next_family : (first : X) → later ≡ Some first → rows_after family row ≡ view first ∷ rows_after next 1
     next_family first some =
         let rows = drop 1 (get_or families next []) in
-        let there : get_or families next [] ≡ explanation_view first ∷ rows =
-        (row_there (get_or families next []) 0 (explanation_view first) (sym then ∙ ap (option_map explanation_view) some)).0 in
-        let more = rows_at families next (explanation_view first) rows there in
+        let there : get_or families next [] ≡ view first ∷ rows =
+        (row_there (get_or families next []) 0 (view first) (sym then ∙ ap (option_map view) some)).0 in
+        let more = rows_at families next (view first) rows there in
         let few = are_few in
         let one : family + 1 ≡ next = omega (arith, step, few, more.0) in
         let after : suc next ≡ next + 1 = omega arith in
         none_here none
         ∙ ap (λ (k : ℕ). rows_of (drop k families)) one
         ∙ more.1
-        ∙ ap (λ (k : ℕ). explanation_view first ∷ (rows ++ rows_of (drop k families))) after
+        ∙ ap (λ (k : ℕ). view first ∷ (rows ++ rows_of (drop k families))) after
 
     -- it has none, and there is no other
     pub no_family : later ≡ None → rows_after family row ≡ []
@@ -110,7 +109,7 @@ module _ (family row next : ℕ) (found : Option Declared) (is : option_map expl
         let few = are_few in
         let last : get_or families (family + 1) [] ≡ [] =
         ⊎_elim (λ less. let one : family + 1 ≡ next = omega (arith, step, less) in
-        ap (λ (k : ℕ). get_or families k []) one ∙ row_past (get_or families next []) 0 (sym then ∙ ap (option_map explanation_view) past))
+        ap (λ (k : ℕ). get_or families k []) one ∙ row_past (get_or families next []) 0 (sym then ∙ ap (option_map view) past))
         (λ more. get_or_past families (family + 1) [] (omega (arith, few, more))) (cases_lt (family + 1) 255) in
         none_here none ∙ none_left families (family + 1) all_have_rows last
 

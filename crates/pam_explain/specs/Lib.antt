@@ -12,7 +12,6 @@ pub mod Paths
 pub mod Policies
 pub mod Released
 pub mod Rules
-pub mod Shared
 pub mod Stacks
 pub mod Tables
 pub mod Views

@@ -17,22 +17,22 @@ pub enum Level {
 /// `mending` have at most 78 bytes. The last two are meant to stand after `Linux-PAM: ` and `To mend it: `, for which their
 /// first lines leave room.
 #[derive(Clone, Copy, Debug)]
-pub struct Explanation {
+pub struct Explanation<Text = &'static str> {
     /// The number, as `E15`.
-    pub number: &'static str,
+    pub number: Text,
     /// The name, as `NoService`.
-    pub name: &'static str,
+    pub name: Text,
     /// The level at which `check` reports it; of what `check` does not report, `Error`.
     pub level: Level,
     /// What is wrong, and why it matters.
-    pub meaning: &'static str,
+    pub meaning: Text,
     /// An example that has it, in lines of at most 74 bytes. A line `# NAME` begins the file of this name, and is its first
     /// line. A line `$ COMMAND` is for a shell, in the folder of these files; lines `> TEXT` belong to the command before
     /// them. If there is no command with `pamcheck`, it is `pamcheck check --dir .` that reports it. The example is empty
     /// where the fault depends on the machine.
-    pub example: &'static str,
+    pub example: Text,
     /// What releases of Linux-PAM do.
-    pub linux_pam: &'static str,
+    pub linux_pam: Text,
     /// What to do.
-    pub mending: &'static str,
+    pub mending: Text,
 }
