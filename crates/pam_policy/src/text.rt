@@ -19,10 +19,11 @@ mod tests;
 mod words;
 
 pub use codes::Codes;
+pub(crate) use codes::failures;
 pub use ending::Ending;
 pub use error::{PolicyError, PolicyFault};
 pub use event::Event;
-pub(crate) use event::without_so;
+pub(crate) use event::{is_name, without_so};
 pub use list::{Events, MAX_TOGETHER};
 pub use policy::{MAX_POLICY_BYTES, MAX_RULES, Policy};
 pub use rule::Rule;

@@ -59,7 +59,7 @@ module _ (sources : SourcesText) (name : List ℕ) (kind : Kind) where
     graph = h.graph;
   }
 
-  accepted : (answered : Answered) → answered.kind ≡ kind → resolved sources.folder name kind ≡ Ok answered.stack →
+  pub accepted : (answered : Answered) → answered.kind ≡ kind → resolved sources.folder name kind ≡ Ok answered.stack →
       Knows (module_count answered.stack) (Ok answered.known) (answers_of sources name kind answered.stack) →
       (class : StackClass) → Holds answered class → IsClassOf sources name kind class
   accepted answered same is known class holds = record {
@@ -77,7 +77,7 @@ module _ (sources : SourcesText) (name : List ℕ) (kind : Kind) where
   accepted-at answered same is known None h = h
   accepted-at answered same is known (Some class) h = accepted answered same is known class h
 
-  refused : (fault : ConfError) → resolved sources.folder name kind ≡ Err fault → (class : StackClass) → Refuses kind fault class →
+  pub refused : (fault : ConfError) → resolved sources.folder name kind ≡ Err fault → (class : StackClass) → Refuses kind fault class →
       IsClassOf sources name kind class
   refused fault is class refuses = record {
     kind_is = refuses.kind_is;

@@ -101,6 +101,45 @@ fn graph_of(alloc: Global, answered: &Answered) -> Result<Option<Graph>, AllocEr
     }
 }
 
+/// The class of a stack with its runs.
+fn with_graph(answered: Answered, graph: Graph) -> StackClass
+    requires { IsGraphOf (may_answer answered.known) answered.stack graph }
+    ensures holds { Holds answered result }
+    ensures graph { HasGraph result }
+{
+    let Answered { kind, stack, known } = answered;
+    StackClass {
+        kind,
+        stack: ClassStack::Known(KnownStack {
+            stack,
+            known,
+            graph,
+        }),
+    }
+}
+
+/// The class of a stack whose runs are too many.
+fn without_graph(answered: &Answered) -> StackClass
+    requires { IsLarge answered.now }
+    ensures holds { Holds answered.now result }
+    ensures graph { HasGraph result }
+{
+    StackClass {
+        kind: answered.kind,
+        stack: ClassStack::TooLarge,
+    }
+}
+
+/// The class of a stack, of which no other is known.
+pub(crate) fn alone(alloc: Global, answered: Answered) -> Result<StackClass, AllocError>
+    ensures { IfOk result (Holds answered) }
+{
+    match graph_of(alloc, &answered)? {
+        Some(graph) => Ok(with_graph(answered, graph)),
+        None => Ok(without_graph(&answered)),
+    }
+}
+
 /// Whether two stacks have the same items, and their modules the same answers.
 fn are_alike(stack: &Stack, known: &Known, other: &Answered) -> bool
     ensures same { IsTrue result → AreSame stack.now other.now.stack }
@@ -237,15 +276,7 @@ impl Classes {
         ensures adds { OnOk result (Adds self.old self.new) }
         ensures class { IfOk result (λ k. HoldsAt answered (slice_get self.new.classes.items k)) }
     {
-        let Answered { kind, stack, known } = answered;
-        let class = StackClass {
-            kind,
-            stack: ClassStack::Known(KnownStack {
-                stack,
-                known,
-                graph,
-            }),
-        };
+        let class = with_graph(answered, graph);
         let position = self.push(class, digest)?;
         Ok(position)
     }
@@ -256,11 +287,7 @@ impl Classes {
         ensures adds { OnOk result (Adds self.old self.new) }
         ensures class { IfOk result (λ k. HoldsAt answered (slice_get self.new.classes.items k)) }
     {
-        let class = StackClass {
-            kind: answered.kind,
-            stack: ClassStack::TooLarge,
-        };
-        let class = self.push(class, digest)?;
+        let class = self.push(without_graph(&answered), digest)?;
         let position = self.large.len();
         self.large.push(LargeStack { answered, class })?;
         self.large_by_digest.insert(digest, position)?;

@@ -4,14 +4,14 @@ ghost use Rattle.std.specs.Prelude.{◌≡◌, ◌∷◌, ◌++◌, [], Err, IfE
 ghost use Rattle.pam_conf.specs.Resolution.{resolved};
 ghost use Rattle.pam_conf.specs.declared.rule.Kind.{Kind as KindText};
 ghost use Rattle.pam_conf.specs.Services.{services_in};
-ghost use Rattle.pam_policy.specs.host.HostStacks.{AreHostStacks, IsClassAt, IsErrorAmong, IsErrorAt, WhyNoStacks, places_from, service_places};
+ghost use Rattle.pam_policy.specs.host.HostStacks.{AreHostStacks, IsClassAt, IsClassOf, IsErrorAmong, IsErrorAt, WhyNoStacks, places_from, service_places};
 ghost use Rattle.pam_policy.specs.host.Sources.{sources_view};
 ghost use Rattle.pam_policy.specs.host.inner.Classes.{Adds, AreFound, IsGathered};
 
 use crate::host::answers::known_at;
-use crate::host::classes::{Answered, Classes};
+use crate::host::classes::{Answered, Classes, alone};
 use crate::host::error::StacksError;
-use crate::host::stacks::{HostPlace, HostSources, HostStacks};
+use crate::host::stacks::{ClassStack, HostPlace, HostSources, HostStacks, StackClass};
 use crate::names::each_of;
 use pam_conf::laws::stack_is_sound_survey;
 use pam_conf::{
@@ -194,6 +194,49 @@ impl Finder<'_> {
         let names = each_of(self.alloc, services)?;
         let found = self.places(&names)?;
         Ok(found)
+    }
+}
+
+/// What is known of the accepted stack of a service for a kind.
+fn known_class(
+    alloc: Global,
+    sources: &HostSources<'_>,
+    service: &[u8],
+    kind: Kind,
+    stack: Stack,
+) -> Result<StackClass, StacksError>
+    requires { resolved sources.now.files.now service.now kind ≡ Ok stack }
+    ensures class { IfOk result (IsClassOf (sources_view sources.now) service.now kind) }
+    ensures reason { IfErr result (IsErrorAt (sources_view sources.now) service.now kind) }
+{
+    let known = match known_at(alloc, sources, service, kind, &stack) {
+        Ok(known) => known,
+        Err(fault) => return Err(StacksError::Known(fault)),
+    };
+    let class = alone(alloc, Answered { kind, stack, known })?;
+    Ok(class)
+}
+
+impl StackClass {
+    /// What is known of the stack of one service for a kind. A service that the sources do not have has the stack of `other`, as
+    /// in Linux-PAM.
+    pub fn of(
+        alloc: Global,
+        sources: &HostSources<'_>,
+        service: &[u8],
+        kind: Kind,
+    ) -> Result<StackClass, StacksError>
+        ensures class { IfOk result (IsClassOf (sources_view sources.now) service.now kind) }
+        ensures reason { IfErr result (IsErrorAt (sources_view sources.now) service.now kind) }
+    {
+        let resolved = walked(alloc, sources.files, service, kind)?;
+        match resolved {
+            Ok(stack) => known_class(alloc, sources, service, kind, stack),
+            Err(fault) => Ok(StackClass {
+                kind,
+                stack: ClassStack::Refused(fault),
+            }),
+        }
     }
 }
 

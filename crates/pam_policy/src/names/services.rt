@@ -1,17 +1,19 @@
 //! P3: the names of services that a host does not have.
 
-ghost use Rattle.std.specs.Prelude.{◌≡◌, ◌==◌, ◌∷◌, [], IfOk, OnOk, filter, map, not};
+ghost use Rattle.std.specs.Prelude.{◌≡◌, ◌==◌, [], IfOk, filter, map, not};
 ghost use Rattle.std.specs.Char.{to_ascii_lowercase};
 ghost use Rattle.std.specs.List.{list_any};
+ghost use Rattle.pam_conf.specs.Services.{each_once};
 ghost use Rattle.pam_policy.specs.names.Host.{host_view};
 ghost use Rattle.pam_policy.specs.names.Misnamed.{is_no_service, is_service, no_service, of_services};
 ghost use Rattle.pam_policy.specs.names.Words.{misnamed_view, saying};
 ghost use Rattle.pam_policy.specs.text.Services.{fits, services_view};
 
 use crate::names::host::Host;
-use crate::names::word::{Misnamed, Word, say};
+use crate::names::word::{Misnamed, Word};
 use crate::text::Services;
 use pam_codes::is_name;
+use pam_conf::NameList;
 use pam_spelling::nearest;
 use pam_text::Texts;
 use std::alloc::{AllocError, Global};
@@ -64,31 +66,37 @@ fn no_service(alloc: Global, host: &Host<'_>, name: &[u8]) -> Result<Misnamed, A
     Ok(Misnamed::NoService(word))
 }
 
-/// Says that a name is no service, if it is to be one and is none.
-fn say_of_name(
-    alloc: Global,
-    host: &Host<'_>,
-    name: &[u8],
-    said: &mut Vec<Misnamed>,
-) -> Result<(), AllocError>
-    ensures { OnOk result (map misnamed_view said.new.items ≡ saying (map misnamed_view said.old.items)
-        (map (no_service (host_view host.now)) (filter (is_no_service (host_view host.now)) (name.now ∷ [])))) }
+/// The names that are to be services and are none, each once.
+fn missing(alloc: Global, host: &Host<'_>, names: &[&[u8]]) -> Result<NameList, AllocError>
+    ensures { IfOk result (λ missing. missing ≡ each_once (filter (is_no_service (host_view host.now)) (map (λ name. name.now) names.now))) }
 {
-    if is_no_service(host, name) {
-        say(said, no_service(alloc, host, name)?)?;
+    let mut missing = NameList::new(alloc);
+    for name in names {
+        if is_no_service(host, name) {
+            missing.add(alloc, name)?;
+        }
     }
-    Ok(())
+    Ok(missing)
 }
 
-/// The names that are to be services and are none.
+/// What is said of each of these names, which are no services.
+fn said_of(alloc: Global, host: &Host<'_>, missing: &Texts) -> Result<Vec<Misnamed>, AllocError>
+    ensures { IfOk result (λ said. map misnamed_view said.items ≡ map (no_service (host_view host.now)) missing.now) }
+{
+    let mut said = Vec::new(alloc);
+    for name in missing.iter() {
+        said.push(no_service(alloc, host, name)?)?;
+    }
+    Ok(said)
+}
+
+/// What is said of the names that are to be services and are none.
 fn wrong_names(alloc: Global, host: &Host<'_>, names: &[&[u8]]) -> Result<Vec<Misnamed>, AllocError>
     ensures { IfOk result (λ said. map misnamed_view said.items ≡ saying []
         (map (no_service (host_view host.now)) (filter (is_no_service (host_view host.now)) (map (λ name. name.now) names.now)))) }
 {
-    let mut said = Vec::new(alloc);
-    for name in names {
-        say_of_name(alloc, host, name, &mut said)?;
-    }
+    let missing = missing(alloc, host, names)?;
+    let said = said_of(alloc, host, missing.names())?;
     Ok(said)
 }
 

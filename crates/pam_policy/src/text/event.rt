@@ -54,7 +54,7 @@ fn is_keyword(word: &[u8]) -> bool
 
 /// Whether a text is not empty and no keyword.
 #[tactic(auto, using(crate::proofs::TextProofs::ServiceSteps::bytes_there))]
-fn is_name(text: &[u8]) -> bool
+pub(crate) fn is_name(text: &[u8]) -> bool
     ensures { result ≡ is_name text.now }
 {
     !text.is_empty() && !is_keyword(text)
