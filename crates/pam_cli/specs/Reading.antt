@@ -20,7 +20,7 @@ use Rattle.pam_words.specs.declared.wanted.ConfSource.TheVariants.{Root}
 use Rattle.pam_words.specs.declared.wanted.KnowledgeSource.{KnowledgeSource}
 use Rattle.pam_words.specs.declared.wanted.TableNames.{TableNames}
 use Rattle.pam_words.specs.declared.wanted.Task.{Task}
-use Rattle.pam_words.specs.declared.wanted.Task.TheVariants.{Check, Compare, Show, Decide, Access, Time, Paths, Outcomes, Graph, Policy}
+use Rattle.pam_words.specs.declared.wanted.Task.TheVariants.{Check, Compare, Show, Decide, Access, Time, Paths, Outcomes, Graph, Policy, Needs}
 use Rattle.pam_words.specs.declared.wanted.CheckFiles.{CheckFiles}
 use Rattle.pam_cli.specs.Links.{AreLinks}
 use Rattle.pam_cli.specs.AccessTables.{AreAccess, AreContents}
@@ -162,6 +162,7 @@ HasSource told candidates (Time table login moment) given = IsTime told table.no
 HasSource told candidates (Paths source kind limit part filter knowledge) given = HasKnowledge told candidates source knowledge [] given
 HasSource told candidates (Outcomes source kind knowledge) given = HasKnowledge told candidates source knowledge [] given
 HasSource told candidates (Graph source kind format knowledge) given = HasKnowledge told candidates source knowledge [] given
+HasSource told candidates (Needs source kind knowledge) given = HasKnowledge told candidates source knowledge [] given
 HasSource told candidates (Policy source policies fail_on knowledge) given =
     HasKnowledge told candidates source knowledge (map (λ s. s.now) policies.items) given
 HasSource told candidates task given = ⊤
@@ -214,6 +215,7 @@ IsOfTask (Time table login moment) name = name ≡ table.now
 IsOfTask (Paths source kind limit part filter knowledge) name = IsOfKnowledge source knowledge name
 IsOfTask (Outcomes source kind knowledge) name = IsOfKnowledge source knowledge name
 IsOfTask (Graph source kind format knowledge) name = IsOfKnowledge source knowledge name
+IsOfTask (Needs source kind knowledge) name = IsOfKnowledge source knowledge name
 IsOfTask (Policy source policies fail_on knowledge) name = IsOfPolicies source knowledge (map (λ s. s.now) policies.items) name
 IsOfTask task name = ⊥
 

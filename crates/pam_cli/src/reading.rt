@@ -291,6 +291,11 @@ pub(crate) fn inputs_of<S: System>(
             source,
             knowledge,
             ..
+        }
+        | Task::Needs {
+            source,
+            knowledge,
+            ..
         } => knowledge_inputs(system, alloc, *source, candidates, knowledge),
         Task::Policy {
             source,

@@ -1,3 +1,4 @@
 pub mod NamedWords
+pub mod NeedsSentences
 pub mod PolicySentences
 pub mod ShownTexts

@@ -7,6 +7,7 @@ pub mod ExplainTexts
 pub mod FlatTexts
 pub mod Leaving
 pub mod ListTexts
+pub mod NeedsTexts
 pub mod OutcomeTexts
 pub mod PageTexts
 pub mod PolicyTexts

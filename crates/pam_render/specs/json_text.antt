@@ -2,6 +2,7 @@ pub mod Check
 pub mod Compare
 pub mod Decide
 pub mod Header
+pub mod Needs
 pub mod Outcomes
 pub mod Paths
 pub mod Policy

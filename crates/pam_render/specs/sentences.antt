@@ -1,6 +1,7 @@
 pub mod Faults
 pub mod Laws
 pub mod NamingView
+pub mod Needs
 pub mod Phrases
 pub mod PhrasesView
 pub mod Policy

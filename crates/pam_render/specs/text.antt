@@ -7,6 +7,7 @@ pub mod Drawing
 pub mod Explain
 pub mod Header
 pub mod Leaves
+pub mod Needs
 pub mod Outcomes
 pub mod Page
 pub mod Policy

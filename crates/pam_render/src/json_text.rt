@@ -6,6 +6,7 @@ mod compare;
 mod decide;
 mod form;
 mod header;
+mod needs;
 mod outcomes;
 mod paths;
 mod policy;

@@ -19,7 +19,7 @@ pub use compared::{
 };
 pub use files::name_at;
 pub use findings::{CheckLine, CheckLines, FoundProblem, write_check};
-pub use items::{RulePlace, StackHead, StackLine, StackLines, write_stack};
+pub use items::{RulePlace, StackHead, StackLine, StackLines, write_stacks};
 pub use module_paths::ModulePaths;
 pub use policy::{
     PolicyHost, PolicyLine, PolicyLines, ToldFinding, ToldRule, kind_of_place, service_of_place,

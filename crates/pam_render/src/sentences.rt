@@ -1,9 +1,10 @@
-//! What is said of the problems of a host and its tables: what is wrong, and how to mend it. Each text that shows them takes its
-//! sentences from here.
+//! What is said of the problems of a host and its tables: what is wrong, and how to mend it; and the rules that hold of a stack, in
+//! words. Each text that shows them takes its sentences from here.
 #![tactic(auto)]
 
 mod faults;
 pub mod laws;
+mod needs;
 mod phrase;
 mod policy;
 mod problems;
@@ -11,6 +12,7 @@ mod shown;
 mod tables;
 
 pub use faults::{Naming, naming_of, plain_sentence};
+pub use needs::{events_in, put_needed_rule};
 pub use phrase::{Phrase, Phrases, put_phrases};
 pub use policy::{policy_finding_name, put_policy_said};
 pub use problems::{

@@ -9,6 +9,7 @@ mod drawing;
 mod explain;
 mod form;
 mod header;
+mod needs;
 mod outcomes;
 mod paths;
 mod policy;

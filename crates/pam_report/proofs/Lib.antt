@@ -7,6 +7,7 @@ pub mod Drawings
 pub mod GoalPages
 pub mod Kept
 pub mod KnownStacks
+pub mod NeedsAnswers
 pub mod OutcomeLists
 pub mod PageParts
 pub mod PolicyAnswers
@@ -14,7 +15,9 @@ pub mod PolicySteps
 pub mod ReleasedRules
 pub mod ServiceSteps
 pub mod SettingSteps
+pub mod ShownSteps
 pub mod SilentChecks
+pub mod StackFaults
 pub mod TraceSteps
 pub mod WalkPages
 pub mod Wanting

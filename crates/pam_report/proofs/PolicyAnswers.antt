@@ -1,5 +1,5 @@
 -- The answer of `policy`, step by step: from the facts, the policies, the moment, the keys and the stacks.
-use Rattle.std.proofs.Common.{◌≡◌, ◌⊎◌, ℕ, Bool, true, false, List, Option, None, Some, Result, Ok, Err, ap, inl, inr, refl, subst, sym}
+use Rattle.std.proofs.Common.{◌≡◌, ◌⊎◌, ℕ, Bool, true, List, Option, Result, Ok, Err, ap, inl, inr, refl, subst, sym}
 use Rattle.std.specs.Prelude.{IfErr, is_some}
 use Rattle.jiff.specs.Types.{DateTime}
 use Rattle.pam_conf.specs.Files.{Folder}
@@ -9,31 +9,19 @@ use Rattle.pam_facts.specs.Rows.{Row}
 use Rattle.pam_facts.specs.declared.error.FactsError.{FactsError}
 use Rattle.pam_facts.specs.declared.error.FactsFault.{FactsFault}
 use Rattle.pam_facts.specs.declared.error.FactsFault.TheVariants as facts_faults
-use Rattle.pam_facts.specs.declared.known.error.KnownError.{KnownError}
-use Rattle.pam_facts.specs.declared.known.error.KnownError.TheVariants as known
-use Rattle.pam_facts.specs.declared.known.error.NumberedError.{NumberedError}
-use Rattle.pam_facts.specs.known.Access.{IsTableFault as IsFaultOfTable}
-use Rattle.pam_facts.specs.known.Answers.{IsTimeFault as IsFaultOfTime}
-use Rattle.pam_facts.specs.known.Reads.{IsOfRead, tables_read}
-use Rattle.pam_facts.specs.known.Tables.{TablesText}
+use Rattle.pam_policy.specs.declared.host.error.StacksError.{StacksError}
 use Rattle.pam_policy.specs.declared.host.error.StacksError.TheVariants as errors
 use Rattle.pam_policy.specs.declared.host.stacks.HostStacks.{HostStacks}
 use Rattle.pam_policy.specs.declared.text.error.PolicyError.{PolicyError}
 use Rattle.pam_policy.specs.declared.text.error.PolicyFault.{PolicyFault}
 use Rattle.pam_policy.specs.declared.text.error.PolicyFault.TheVariants.{Memory}
-use Rattle.pam_policy.specs.host.Answers.{answers_of}
 use Rattle.pam_policy.specs.host.HostStacks.{WhyNoStacks}
 use Rattle.pam_policy.specs.host.Sources.{SourcesText}
 use Rattle.pam_policy.specs.text.Rules.{RuleText}
-use Rattle.pam_tables.specs.declared.error.TableFault.{TableFault}
-use Rattle.pam_tables.specs.declared.error.TableFault.TheVariants as tables
-use Rattle.pam_tables.specs.declared.times.error.TimeError.{TimeError}
-use Rattle.pam_tables.specs.declared.times.error.TimeFault.{TimeFault}
-use Rattle.pam_tables.specs.declared.times.error.TimeFault.TheVariants as times
 use Rattle.pam_tables.specs.declared.times.moments.MomentError.{MomentError}
-use Rattle.pam_report.proofs.Wanting.{wanted-given}
+use Rattle.pam_report.proofs.StackFaults.{of-known, wanting-at}
 use Rattle.pam_report.specs.Fault.{facts_fault, fault_of_facts, fault_of_policy, known_fault, policy_fault}
-use Rattle.pam_report.specs.Finds.{Finds, IsTableFault, IsTimeFault, Refuses}
+use Rattle.pam_report.specs.Finds.{Finds, Refuses}
 use Rattle.pam_report.specs.Inputs.{tables_given}
 use Rattle.pam_report.specs.Memory.{IsWanting, Wants, of_paths, paths_tables}
 use Rattle.pam_report.specs.Policy.{IsByFacts, IsKeyed, IsRead, IsTableRefusal, IsTimed, PolicyText}
@@ -42,7 +30,7 @@ use Rattle.pam_report.specs.declared.fault.Fault.{Fault}
 use Rattle.pam_report.specs.declared.fault.Fault.TheVariants as faults
 use Rattle.pam_report.specs.declared.inputs.Inputs.{Inputs}
 use Rattle.pam_report.specs.declared.report.replies.Reply.{Reply}
-use Rattle.pam_report.specs.inner.Policy.{FindsStacks, IsUnread}
+use Rattle.pam_report.specs.inner.Policy.{FindsStacks, IsUnread, fault_of_stacks}
 
 module _ (asked : PolicyText) (files : Folder) (inputs : Inputs) where
   -- ---- facts
@@ -97,30 +85,20 @@ module _ (asked : PolicyText) (files : Folder) (inputs : Inputs) where
 
 -- ---- the stacks
 
+-- they are not found for this reason
+pub refused-stacks : (sources : SourcesText) (error : StacksError) (fault : Fault) → fault ≡ fault_of_stacks error
+    → WhyNoStacks sources (services_in sources.folder.form sources.folder.entries) error → (fault ≡ faults.Memory) ⊎ IsTableRefusal sources fault
+refused-stacks sources (errors.Known error) fault same why = inr (record { error = error; same = same; met = why })
+refused-stacks sources errors.Memory fault same why = inl same
+
 -- the fault of a table, if an answer with it is right
 module _ (sources : SourcesText) (IsAnswer : Answer → Type 0) (exact : (fault : Fault) → IsTableRefusal sources fault → IsAnswer (Err fault)) where
-  abbrev Met : KnownError → Type 0
-  Met error = WhyNoStacks sources (services_in sources.folder.form sources.folder.entries) (errors.Known error)
-
-  of-table : (e : NumberedError) (fault : TableFault) → e.error.fault ≡ fault → Met (known.Table e) → IsTableFault IsAnswer e fault
-  of-table e tables.Memory same met =
-      let at = met.is_error in
-      subst (λ (f : TableFault). IsFaultOfTable f e.error.line (answers_of sources met.name met.kind at.items ≡ Err (known.Table e))) same at.first
-  of-table e _ same met = exact (faults.Table e) (record { error = known.Table e; same = refl; met = met })
-
-  of-time : (e : TimeError) (fault : TimeFault) → e.fault ≡ fault → Met (known.Time e) → IsTimeFault IsAnswer e fault
-  of-time e times.Memory same met =
-      let at = met.is_error in
-      subst (λ (f : TimeFault). IsFaultOfTime f e.line (answers_of sources met.name met.kind at.items ≡ Err (known.Time e))) same at.first
-  of-time e _ same met = exact (faults.Time e) (record { error = known.Time e; same = refl; met = met })
-
-  of-known : (error : KnownError) → Met error → Refuses IsAnswer (known_fault error)
-  of-known (known.Table e) met = of-table e e.error.fault refl met
-  of-known (known.Time e) met = of-time e e.fault refl met
-
   pub without-stacks : (fault : Fault) → (fault ≡ faults.Memory) ⊎ IsTableRefusal sources fault → Refuses IsAnswer fault
   without-stacks fault (inl memory) = subst (λ (f : Fault). Refuses IsAnswer f) (sym memory) tt
-  without-stacks fault (inr refusal) = subst (λ (f : Fault). Refuses IsAnswer f) (sym refusal.same) (of-known refusal.error refusal.met)
+  without-stacks fault (inr refusal) =
+      let met = refusal.met in
+      let answered = exact (known_fault refusal.error) (record { error = refusal.error; same = refl; met = met }) in
+      subst (λ (f : Fault). Refuses IsAnswer f) (sym refusal.same) (of-known sources met.name met.kind IsAnswer refusal.error met.is_error answered)
 
 -- ---- want of memory
 
@@ -142,7 +120,6 @@ stacks-wanting sources inputs rows moment (Ok stacks) same h = tt
 stacks-wanting sources inputs rows moment (Err fault) same (inl memory) =
     subst (λ (f : Fault). IsWanting (of_paths (paths_tables (is_some moment) inputs)) f) (sym memory) refl
 stacks-wanting sources inputs rows moment (Err fault) same (inr refusal) =
-    let at = refusal.met.is_error in
-    let read = subst (λ (t : TablesText). IsOfRead (tables_read refusal.met.kind t at.items) refusal.error) same at.read in
+    let met = refusal.met in
     subst (λ (f : Fault). IsWanting (of_paths (paths_tables (is_some moment) inputs)) f) (sym refusal.same)
-    (wanted-given refusal.met.kind inputs rows moment at.items refusal.error read)
+    (wanting-at sources met.name met.kind inputs rows moment refusal.error same met.is_error)

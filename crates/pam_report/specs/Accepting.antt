@@ -26,8 +26,13 @@ number_in name = option_map_or (λ p. p.0) (cut_at (is_among (32 ∷ [])) name) 
 abbrev pub service_at : List (List ℕ) → ℕ → List ℕ
 service_at services position = unwrap_or (slice_get services position) []
 
-abbrev pub stack_key : List (List ℕ) → ℕ × Kind → List ℕ
-stack_key services stack = codes " " ++ service_at services stack.0 ++ codes " " ++ kind_name stack.1
+-- the name of the service of a stack; where a file is the cause, that of the file, which is a service too
+abbrev pub stack_name : Folder → List (List ℕ) → Option ℕ → Option ℕ → List ℕ
+stack_name files services file (Some service) = service_at services service
+stack_name files services file None = unwrap_or (file_at files file) []
+
+abbrev pub stack_key : List ℕ → Kind → List ℕ
+stack_key name kind = codes " " ++ name ++ codes " " ++ kind_name kind
 
 abbrev pub line_key : ℕ → List ℕ
 line_key line = if line == 0 then [] else codes ":" ++ decimal line
@@ -37,8 +42,8 @@ file_key None line = []
 file_key (Some name) line = codes " " ++ name ++ line_key line
 
 -- ` SERVICE KIND` for a stack, ` FILE:LINE` for a line, ` FILE` for a file as a whole, and nothing for the configuration as a whole
-abbrev pub place_key : Folder → List (List ℕ) → Place → Option (ℕ × Kind) → List ℕ
-place_key files services place (Some stack) = stack_key services stack
+abbrev pub place_key : Folder → List (List ℕ) → Place → Option (Option ℕ × Kind) → List ℕ
+place_key files services place (Some stack) = stack_key (stack_name files services place.file stack.0) stack.1
 place_key files services place None = file_key (file_at files place.file) place.line
 
 -- THE KEY of a finding: its number and its place

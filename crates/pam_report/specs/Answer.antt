@@ -30,7 +30,8 @@ use Rattle.pam_words.specs.declared.wanted.Answers.{Answers}
 use Rattle.pam_words.specs.declared.wanted.Login.{Login}
 use Rattle.pam_words.specs.declared.wanted.ReleaseName.{ReleaseName}
 use Rattle.pam_words.specs.declared.wanted.Task.{Task}
-use Rattle.pam_words.specs.declared.wanted.Task.TheVariants.{Show, Decide, Access, Time, Paths, Outcomes, Graph, Check, Compare, Policy, Explain, Facts, Version}
+use Rattle.pam_words.specs.declared.wanted.Task.TheVariants.{Show, Decide, Access, Time, Paths, Outcomes, Graph, Check, Compare, Policy, Needs}
+use Rattle.pam_words.specs.declared.wanted.Task.TheVariants.{Explain, Facts, Version}
 use Rattle.pam_report.specs.Candidates.{CandidateText, IfUsed, first_unused}
 use Rattle.pam_report.specs.Check.{IsCheck}
 use Rattle.pam_report.specs.Compare.{IsCompare}
@@ -42,15 +43,17 @@ use Rattle.pam_report.specs.KnownStack.{KnownItems, facts_asked, known_stack, wi
 use Rattle.pam_report.specs.Finds.{Finds}
 use Rattle.pam_report.specs.Memory.{WantsOnly, wants}
 use Rattle.pam_report.specs.Moments.{IsGivenMoment, IsMoment}
+use Rattle.pam_report.specs.Needs.{IsNeeds}
 use Rattle.pam_report.specs.Outcomes.{IsOutcomes}
 use Rattle.pam_report.specs.Paths.{IsPage}
 use Rattle.pam_report.specs.Policy.{IsPolicy, visitor_of}
-use Rattle.pam_report.specs.Released.{ReleasedValue, released}
-use Rattle.pam_report.specs.Reply.{Answer, RunValue, Released, Run, Stack}
+use Rattle.pam_report.specs.Released.{released}
+use Rattle.pam_report.specs.Reply.{Answer, Reply as ReplyValue, RunValue, Released, Run, Stacks}
 use Rattle.pam_report.specs.Reply.{Explained, Explanations}
 use Rattle.pam_report.specs.Reply.{Access as AccessReply, Facts as FactsReply, Time as TimeReply, Version as VersionReply}
 use Rattle.pam_report.specs.Services.{IfServices, has_service, has_services, sides_have}
 use Rattle.pam_report.specs.Settings.{with_settings}
+use Rattle.pam_report.specs.Show.{for_each, kinds_shown, stack_in}
 use Rattle.pam_report.specs.declared.inputs.Inputs.{Inputs}
 use Rattle.pam_report.specs.declared.fault.Fault.{Fault}
 use Rattle.pam_report.specs.declared.fault.Fault.TheVariants as faults
@@ -61,18 +64,19 @@ abbrev pub with_stack : Result Items ConfError → (Items → Answer) → Answer
 with_stack (Err e) next = Err (faults.Conf e)
 with_stack (Ok items) next = next items
 
-abbrev pub shown : List ℕ → Kind → Folder → Items → Answer
-shown service kind files items = Ok (Stack (record { service = service; kind = kind; files = files; items = items }))
+-- an answer that has these values, or the fault of what they are found in
+abbrev pub answer_of : {V : Type 0} → (V → ReplyValue) → Result V ConfError → Answer
+answer_of reply (Err e) = Err (faults.Conf e)
+answer_of reply (Ok values) = Ok (reply values)
 
--- the rules of a file, or its fault
-abbrev pub answer_of : Result ReleasedValue ConfError → Answer
-answer_of (Err e) = Err (faults.Conf e)
-answer_of (Ok value) = Ok (Released value)
+-- what is shown for these kinds: the stack, or the rules of the service's own file as a release reads them, if one is named
+abbrev pub shown_for : Option ReleaseName → List ℕ → List Kind → Folder → Answer
+shown_for None service kinds files = answer_of Stacks (for_each (stack_in service files) kinds)
+shown_for (Some release) service kinds files = answer_of Released (for_each (λ kind. released service kind release files) kinds)
 
--- the stack, or the rules of the service's own file as a release reads them, if one is named
-abbrev pub shown_by : Option ReleaseName → List ℕ → Kind → Folder → Answer
-shown_by None service kind files = with_stack (resolved files service kind) (shown service kind files)
-shown_by (Some release) service kind files = answer_of (released service kind release files)
+-- the same, for the kind that is named, or for all
+abbrev pub shown_by : Option ReleaseName → List ℕ → Option Kind → Folder → Answer
+shown_by release service kind files = shown_for release service (kinds_shown kind) files
 
 -- the run of a stack whose modules return these codes
 abbrev pub run_of : List ℕ → Kind → List ℕ → Items → RunValue
@@ -169,6 +173,15 @@ module _ (Gives : (Answer → Type 0) → Type 0) where
       (at : Option (Result DateTime MomentError)) × IsGivenMoment knowledge.moment at
       × Gives (IfServices (has_service files service)
       (IsOutcomes service kind (stack_at service kind knowledge.login knowledge.answers (map setting_view knowledge.settings.items) inputs at files)))
+  AnswersBy service candidates (Needs source kind knowledge) files inputs =
+      (at : Option (Result DateTime MomentError)) × IsGivenMoment knowledge.moment at
+      × Gives (IfServices (has_service files service) (IsNeeds (record {
+        service = service;
+        kind = kind;
+        visitor = visitor_of knowledge.login;
+        settings = map setting_view knowledge.settings.items;
+        moment = at;
+      }) files inputs))
   AnswersBy service candidates (Check source services fail_on named) files inputs =
       Gives (IfServices (has_services files services)
       (IfUsed (first_unused files services candidates) (IsCheck services fail_on named files inputs)))

@@ -16,7 +16,8 @@ use Rattle.pam_words.specs.Wanted.{facts_named}
 use Rattle.pam_words.specs.declared.wanted.Task.{Task}
 use Rattle.pam_words.specs.declared.wanted.KnowledgeSource.{KnowledgeSource}
 use Rattle.pam_words.specs.declared.wanted.TableNames.{TableNames}
-use Rattle.pam_words.specs.declared.wanted.Task.TheVariants.{Check, Compare, Show, Decide, Access, Time, Paths, Outcomes, Graph, Policy, Explain, Facts, Version}
+use Rattle.pam_words.specs.declared.wanted.Task.TheVariants.{Check, Compare, Show, Decide, Access, Time, Paths, Outcomes, Graph, Policy, Needs}
+use Rattle.pam_words.specs.declared.wanted.Task.TheVariants.{Explain, Facts, Version}
 use Rattle.pam_words.specs.declared.wanted.CheckFiles.{CheckFiles}
 use Rattle.pam_words.specs.declared.wanted.CompareFiles.{CompareFiles}
 use Rattle.pam_report.specs.declared.inputs.AccessFiles.{AccessFiles}
@@ -184,6 +185,7 @@ fits_task (Time name login moment) (inputs.Time table) = true
 fits_task (Paths source kind limit part filter knowledge) inputs = fits_knowledge knowledge inputs
 fits_task (Outcomes source kind knowledge) inputs = fits_knowledge knowledge inputs
 fits_task (Graph source kind format knowledge) inputs = fits_knowledge knowledge inputs
+fits_task (Needs source kind knowledge) inputs = fits_knowledge knowledge inputs
 fits_task (Policy source names fail_on knowledge) inputs = fits_knowledge knowledge inputs && has_policies (length names.items) inputs
 fits_task (Explain number) inputs.Nothing = true
 fits_task Facts inputs.Nothing = true

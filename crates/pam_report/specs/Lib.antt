@@ -15,6 +15,7 @@ pub mod Laws
 pub mod Memory
 pub mod Moments
 pub mod Names
+pub mod Needs
 pub mod Outcomes
 pub mod PageView
 pub mod Paths
@@ -26,6 +27,7 @@ pub mod Reply
 pub mod ReplyViews
 pub mod Services
 pub mod Settings
+pub mod Show
 pub mod TablePaths
 pub mod TooLarge
 pub mod inner

@@ -10,7 +10,8 @@ use Rattle.pam_tables.specs.declared.error.Table.TheVariants.{Access as AccessTa
 use Rattle.pam_tables.specs.declared.error.TableFault.TheVariants as reasons
 use Rattle.pam_tables.specs.declared.times.error.TimeFault.TheVariants as times
 use Rattle.pam_words.specs.declared.wanted.Task.{Task}
-use Rattle.pam_words.specs.declared.wanted.Task.TheVariants.{Check, Compare, Show, Decide, Access, Time, Paths, Outcomes, Graph, Policy, Explain, Facts, Version}
+use Rattle.pam_words.specs.declared.wanted.Task.TheVariants.{Check, Compare, Show, Decide, Access, Time, Paths, Outcomes, Graph, Policy, Needs}
+use Rattle.pam_words.specs.declared.wanted.Task.TheVariants.{Explain, Facts, Version}
 use Rattle.pam_report.specs.Inputs.{group_file, has_access, returns_given}
 use Rattle.pam_report.specs.declared.fault.Fault.{Fault}
 use Rattle.pam_report.specs.declared.fault.Fault.TheVariants as faults
@@ -80,6 +81,7 @@ wants (Time table login moment) inputs = of_tables false false true
 wants (Paths source kind limit part filter knowledge) inputs = of_paths (paths_tables (is_some knowledge.moment) inputs)
 wants (Outcomes source kind knowledge) inputs = of_paths (paths_tables (is_some knowledge.moment) inputs)
 wants (Graph source kind format knowledge) inputs = of_paths (paths_tables (is_some knowledge.moment) inputs)
+wants (Needs source kind knowledge) inputs = of_paths (paths_tables (is_some knowledge.moment) inputs)
 wants (Policy source names fail_on knowledge) inputs = of_paths (paths_tables (is_some knowledge.moment) inputs)
 
 abbrev pub wants_table : Wants → Table → Bool

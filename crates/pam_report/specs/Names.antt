@@ -20,6 +20,7 @@ argument_name (arguments.Unknown reaction) = codes "S15 UnknownArgument"
 argument_name arguments.Longer = codes "S16 LongerWord"
 argument_name arguments.OtherKind = codes "S17 ArgumentOfOtherKind"
 argument_name arguments.BadValue = codes "S18 BadValue"
+argument_name arguments.NoToken = codes "S20 NoToken"
 argument_name arguments.Weak = codes "S23 WeakHash"
 
 -- the number and the name
@@ -49,10 +50,10 @@ problem_name problems.UnknownModule = codes "S25 UnknownModule"
 problem_name problems.SuccessNeverCounts = codes "S26 SuccessNeverCounts"
 problem_name problems.LinkOutside = codes "S27 LinkOutside"
 
--- the service and the kind of a problem of a whole stack
-abbrev pub stack_of : Problem → Option (ℕ × Kind)
+-- the kind of a problem of a whole stack, and its service, unless a file is the cause
+abbrev pub stack_of : Problem → Option (Option ℕ × Kind)
 stack_of (problems.LetsNobodyIn service kind) = Some (service, kind)
 stack_of (problems.LetsAnybodyIn service is_greeter) = Some (service, Auth)
-stack_of (problems.TooLarge service kind) = Some (service, kind)
-stack_of (problems.OtherAnswers service kind has_no_rule lets_nobody_in) = Some (service, kind)
+stack_of (problems.TooLarge service kind) = Some (Some service, kind)
+stack_of (problems.OtherAnswers service kind has_no_rule lets_nobody_in) = Some (Some service, kind)
 stack_of problem = None

@@ -9,6 +9,7 @@ use Rattle.pam_facts.specs.Reading.{known_rows}
 use Rattle.pam_facts.specs.Rows.{Row}
 use Rattle.pam_facts.specs.declared.error.FactsError.{FactsError}
 use Rattle.pam_facts.specs.declared.known.error.KnownError.{KnownError}
+use Rattle.pam_facts.specs.known.Tables.{TablesText}
 use Rattle.pam_facts.specs.settings.Settings.{SettingText}
 use Rattle.pam_policy.specs.declared.host.error.StacksError.TheVariants.{Known}
 use Rattle.pam_policy.specs.declared.text.error.PolicyError.{PolicyError}
@@ -55,6 +56,10 @@ policies_of texts = policies_from 1 texts 0
 
 -- ---- what is asked
 
+-- what the stacks of a configuration are found from, for a visitor, with these tables and settings
+abbrev pub sources_by : Folder → VisitorText → List SettingText → TablesText → SourcesText
+sources_by files visitor settings tables = record { folder = files; visitor = visitor; tables = tables; settings = settings }
+
 -- the names of the policies, the least level of a finding that makes the status a refusal, whose login the tables are asked about, what is
 -- set for modules, and the moment, if one is given
 pub record PolicyText : Type 0 where
@@ -100,12 +105,7 @@ pub record IsTableRefusal (sources : SourcesText) (fault : Fault) : Type 0 where
 module _ (asked : PolicyText) (files : Folder) (inputs : Inputs) where
   -- what the stacks are found from, by these facts and at this moment
   abbrev pub sources_of : List Row → Option DateTime → SourcesText
-  sources_of facts moment = record {
-    folder = files;
-    visitor = asked.visitor;
-    tables = tables_given inputs (Some facts) moment;
-    settings = asked.settings;
-  }
+  sources_of facts moment = sources_by files asked.visitor asked.settings (tables_given inputs (Some facts) moment)
 
   -- the stacks of the host, and what these say of each rule of each policy
   pub record IsPolicyOf (facts : List Row) (moment : Option DateTime) (policies : List (List RuleText)) (value : PolicyValue) : Type 0 where

@@ -12,7 +12,7 @@ use Rattle.pam_spelling.specs.Nearest.{nearest}
 use Rattle.pam_words.specs.declared.wanted.ConfSource.{ConfSource}
 use Rattle.pam_words.specs.declared.wanted.ConfSource.TheVariants.{Dir, Over, Conf, Root}
 use Rattle.pam_words.specs.declared.wanted.Task.{Task}
-use Rattle.pam_words.specs.declared.wanted.Task.TheVariants.{Check, Compare, Outcomes, Graph, Policy}
+use Rattle.pam_words.specs.declared.wanted.Task.TheVariants.{Check, Compare, Outcomes, Graph, Needs, Policy}
 use Rattle.pam_report.specs.Candidates.{CandidateText, first_unused}
 use Rattle.pam_report.specs.Compare.{side_of}
 use Rattle.pam_report.specs.Fault.{fault_line, line_of, line_place, policy_place}
@@ -87,6 +87,7 @@ abbrev pub unknown_text : List ℕ → Task → Folder → Inputs → List ℕ
 unknown_text service (Check source services fail_on named) files inputs = missing_among files source services
 unknown_text service (Outcomes source kind knowledge) files inputs = missing_text files (place_in source files.form) service
 unknown_text service (Graph source kind format knowledge) files inputs = missing_text files (place_in source files.form) service
+unknown_text service (Needs source kind knowledge) files inputs = missing_text files (place_in source files.form) service
 unknown_text service (Compare old new named kind given) files inputs =
     option_map_or (neither_text (side_of (old_given inputs)).folder (side_of (new_given inputs)).folder (side_named old) (side_named new)) (option_copied named) []
 unknown_text service task files inputs = []

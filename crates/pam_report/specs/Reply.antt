@@ -20,6 +20,7 @@ use Rattle.pam_findings.specs.declared.host.way_in.WayIn.{WayIn}
 use Rattle.pam_graph.specs.declared.goal.Goal.{Goal}
 use Rattle.pam_findings.specs.misspelled.Misspelled.{MisspelledText}
 use Rattle.pam_policy.specs.host.Findings.{FindingText, findings_of}
+use Rattle.pam_policy.specs.needs.Suggestions.{SuggestionText}
 use Rattle.pam_policy.specs.declared.host.report.RuleReport.{RuleReport}
 use Rattle.pam_policy.specs.declared.host.stacks.HostStacks.{HostStacks}
 use Rattle.pam_paths.specs.Listing.{Allowance}
@@ -121,9 +122,18 @@ pub record PolicyValue : Type 0 where
   pub policies : List JudgedPolicy
   pub fail_on : LevelName
 
+-- the rules that hold of the stack of a service, or `None` if no answers let anybody in
+pub record NeedsValue : Type 0 where
+  pub service : List ℕ
+  pub kind : Kind
+  pub items : Items
+  pub rules : Option (List SuggestionText)
+
 pub data Reply : Type 0 where
-  Stack : StackValue → Reply
-  Released : ReleasedValue → Reply
+  -- the stacks of a service
+  Stacks : List StackValue → Reply
+  -- the rules of a service, as a release reads them
+  Released : List ReleasedValue → Reply
   Run : RunValue → Reply
   -- the answer, and the name of the table whose line decides, where several are given
   Access : AccessAnswer → Option (List ℕ) → Reply
@@ -134,6 +144,7 @@ pub data Reply : Type 0 where
   Check : CheckValue → Reply
   Compared : CompareValue → Reply
   Policy : PolicyValue → Reply
+  Needs : NeedsValue → Reply
   Explained : Explanation → Reply
   Explanations : Reply
   Facts : Reply

@@ -5,6 +5,7 @@ use Rattle.std.specs.Prelude.{[], Option, map, option_map, unwrap_or}
 use Rattle.pam_conf.specs.Files.{Folder}
 use Rattle.pam_explain.specs.Views.{explanation_view}
 use Rattle.pam_findings.specs.misspelled.MisspelledView.{misspelled_view}
+use Rattle.pam_policy.specs.needs.Suggestions.{suggestion_view}
 use Rattle.pam_report.specs.Decide.{AskedModule}
 use Rattle.pam_report.specs.Inputs.{no_files}
 use Rattle.pam_report.specs.PageView.{page_value}
@@ -15,6 +16,7 @@ use Rattle.pam_report.specs.TablePaths.{table_paths_view}
 use Rattle.pam_report.specs.declared.report.check.CheckReply.{CheckReply}
 use Rattle.pam_report.specs.declared.report.compare.CompareReply.{CompareReply}
 use Rattle.pam_report.specs.declared.report.graph.GraphReply.{GraphReply}
+use Rattle.pam_report.specs.declared.report.needs.NeedsReply.{NeedsReply}
 use Rattle.pam_report.specs.declared.report.outcomes.Outcome.{Outcome}
 use Rattle.pam_report.specs.declared.report.outcomes.OutcomesReply.{OutcomesReply}
 use Rattle.pam_report.specs.declared.report.policy.PolicyReply.{PolicyReply}
@@ -94,10 +96,18 @@ compare_view c = record { old = side_files c.old; new = side_files c.new; change
 abbrev pub policy_view : PolicyReply → spec.PolicyValue
 policy_view p = record { files = side_files p.files; stacks = p.stacks; policies = p.policies.items; fail_on = p.fail_on }
 
+abbrev pub needs_view : NeedsReply → spec.NeedsValue
+needs_view n = record {
+  service = n.service.now;
+  kind = n.kind;
+  items = n.stack;
+  rules = option_map (λ rules. map suggestion_view rules.items) n.rules;
+}
+
 -- THE VALUE of a reply
 abbrev pub reply_view : Reply → spec.Reply
-reply_view (replies.Stack stack) = spec.Stack (stack_view stack)
-reply_view (replies.Released rules) = spec.Released (released_view rules)
+reply_view (replies.Stacks stacks) = spec.Stacks (map stack_view stacks.items)
+reply_view (replies.Released readings) = spec.Released (map released_view readings.items)
 reply_view (replies.Run run) = spec.Run (run_view run)
 reply_view (replies.Access found) = spec.Access found.answer (option_copied found.table)
 reply_view (replies.Time found) = spec.Time found
@@ -106,6 +116,7 @@ reply_view (replies.Graph drawing) = spec.Drawing (drawing_view drawing)
 reply_view (replies.Check check) = spec.Check (check_view check)
 reply_view (replies.Compared changes) = spec.Compared (compare_view changes)
 reply_view (replies.Policy policies) = spec.Policy (policy_view policies)
+reply_view (replies.Needs found) = spec.Needs (needs_view found)
 reply_view (replies.Explained explanation) = spec.Explained (explanation_view explanation)
 reply_view replies.Explanations = spec.Explanations
 reply_view replies.Facts = spec.Facts

@@ -8,6 +8,7 @@ pub mod FaultViews
 pub mod GraphViews
 pub mod Known
 pub mod Memory
+pub mod Needs
 pub mod OutcomeViews
 pub mod PageView
 pub mod Policy

@@ -133,7 +133,7 @@ pub enum Inputs {
     Time {
         table: Vec<u8>,
     },
-    /// For `paths`, `outcomes`, `graph` and `policy`.
+    /// For `paths`, `outcomes`, `graph`, `needs` and `policy`.
     Paths {
         files: Files,
         given: KnowledgeInputs,

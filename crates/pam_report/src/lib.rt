@@ -21,8 +21,8 @@ pub use inputs::{
 };
 pub use names::{kind_name, problem_name, stack_of};
 pub use report::{
-    AccessReply, AskedModule, CheckReply, CompareReply, GraphReply, JudgedPolicy, Outcome,
-    Outcomes, OutcomesReply, PageRenderer, PathsPage, PolicyReply, ReleasedReply, Reply, RunReply,
-    StackReply, Status, Trace, path_at, policy_level, reply_to,
+    AccessReply, AskedModule, CheckReply, CompareReply, GraphReply, JudgedPolicy, NeedsReply,
+    Outcome, Outcomes, OutcomesReply, PageRenderer, PathsPage, PolicyReply, ReleasedReply, Reply,
+    RunReply, StackReply, Status, Trace, path_at, policy_level, reply_to,
 };
 pub use tables::{TablePaths, table_problem_level, table_problem_name};

@@ -27,6 +27,7 @@ fn argument_name(wrong: ArgumentProblem) -> &'static str
         ArgumentProblem::Longer => "S16 LongerWord",
         ArgumentProblem::OtherKind => "S17 ArgumentOfOtherKind",
         ArgumentProblem::BadValue => "S18 BadValue",
+        ArgumentProblem::NoToken => "S20 NoToken",
         ArgumentProblem::Weak => "S23 WeakHash",
     }
 }
@@ -63,15 +64,16 @@ pub fn problem_name(problem: Problem) -> &'static str
     }
 }
 
-/// Returns the position of the service and the kind of a problem of a whole stack.
-pub fn stack_of(problem: Problem) -> Option<(usize, Kind)>
+/// Returns the kind of a problem of a whole stack, and the position of its service; `None` in its place where a file is the cause.
+pub fn stack_of(problem: Problem) -> Option<(Option<usize>, Kind)>
     ensures { result ≡ spec.stack_of problem }
 {
     match problem {
-        Problem::LetsNobodyIn { service, kind }
-        | Problem::TooLarge { service, kind }
-        | Problem::OtherAnswers { service, kind, .. } => Some((service, kind)),
+        Problem::LetsNobodyIn { service, kind } => Some((service, kind)),
         Problem::LetsAnybodyIn { service, .. } => Some((service, Kind::Auth)),
+        Problem::TooLarge { service, kind } | Problem::OtherAnswers { service, kind, .. } => {
+            Some((Some(service), kind))
+        }
         _ => None,
     }
 }

@@ -19,8 +19,10 @@ mod decide;
 mod explain;
 mod goal_pages;
 mod graph;
+mod host_sources;
 mod known_stack;
 mod login;
+mod needs;
 mod outcomes;
 mod paths;
 mod policy;
@@ -46,6 +48,8 @@ use explain::explained;
 pub use graph::{GraphReply, MAX_PICTURE_NODES};
 use graph::{DrawingRequest, answer_graph};
 use known_stack::{Sources, StackRequest};
+pub use needs::NeedsReply;
+use needs::answer_needs;
 use outcomes::answer_outcomes;
 pub use outcomes::{Outcome, Outcomes, OutcomesReply};
 use pam_conf::{Files, Form, Kind};
@@ -198,7 +202,7 @@ fn reply_about_runs<'a>(
     }
 }
 
-/// Returns the reply to a request about a service: its stack, one run of it, or what a table says of a login.
+/// Returns the reply to a request about a service: its stack, one run of it, the rules that hold of it, or what a table says of a login.
 #[tactic(auto, unfolding(crate::specs::Answer::AnswersBy))]
 fn reply_about_service<'a>(
     alloc: Global,
@@ -231,6 +235,14 @@ fn reply_about_service<'a>(
         Task::Time { login, moment, .. } => {
             let moment = moment_of(*moment);
             answer_time(alloc, service, *login, moment, inputs)
+        }
+        Task::Needs {
+            kind,
+            knowledge,
+            ..
+        } => {
+            let stack = stack_request(service, *kind, knowledge);
+            answer_needs(&sources_of(alloc, files, inputs, knowledge), &stack)
         }
         _ => reply_about_runs(alloc, request, files, inputs),
     }

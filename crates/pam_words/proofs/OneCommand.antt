@@ -8,7 +8,7 @@ use Rattle.clap.specs.Simple.{built_leaf, help_shape, inherited, marked_built, w
 use Rattle.clap.specs.Takes.{built_takes}
 use Rattle.clap.specs.Walk.{nothing_held}
 use Rattle.pam_words.specs.Words.{access_app, bare_app, check_app, compare_app, decide_app, explain_app, facts_app, graph_app, outcomes_app, pamcheck_app}
-use Rattle.pam_words.specs.Words.{paths_app, policy_app, show_app, time_app, version_app}
+use Rattle.pam_words.specs.Words.{needs_app, paths_app, policy_app, show_app, time_app, version_app}
 use Rattle.pam_words.specs.inner.Building.{app_for, app_of_one, is_named}
 use Rattle.clap.specs.declared.builder.Command.{Command}
 use Rattle.pam_words.proofs.Subcommand.{is_simple-pamcheck, is_simple_and_free-pamcheck}
@@ -31,12 +31,12 @@ is_sound s = has_no_alias s && (is_simple (app_of_one s) && is_simple_and_free (
 
 all_sound : list_all is_sound pamcheck_app.subs ≡ true
 unfolding pamcheck_app bare_app check_app compare_app policy_app show_app decide_app paths_app outcomes_app graph_app access_app time_app explain_app
-    facts_app version_app
+    facts_app needs_app version_app
 all_sound = refl
 
 no_aliases : list_all has_no_alias pamcheck_app.subs ≡ true
 unfolding pamcheck_app bare_app check_app compare_app policy_app show_app decide_app paths_app outcomes_app graph_app access_app time_app explain_app
-    facts_app version_app
+    facts_app needs_app version_app
 no_aliases = refl
 
 alone-all : (has : Shape → Bool) (s : Shape) → has s ≡ true → list_all has (s ∷ []) ≡ true
@@ -51,7 +51,7 @@ module _ (word : Text) (s : Shape) (found : find (is_named word) pamcheck_app.su
 
   meets-all : Meets (built pamcheck_app) word (built_leaf (inherited above s))
   unfolding pamcheck_app bare_app check_app compare_app policy_app show_app decide_app paths_app outcomes_app graph_app access_app time_app explain_app
-      facts_app version_app
+      facts_app needs_app version_app
   meets-all = record { found = find-leaf above word pamcheck_app.subs (help_shape ∷ []) s no_aliases found; name = named }
 
   no_alias : has_no_alias s ≡ true
@@ -70,7 +70,7 @@ module _ (word : Text) (s : Shape) (found : find (is_named word) pamcheck_app.su
 
   top : (built pamcheck_app).top ≡ (built (app_of_one s)).top
   unfolding pamcheck_app bare_app check_app compare_app policy_app show_app decide_app paths_app outcomes_app graph_app access_app time_app explain_app
-      facts_app version_app
+      facts_app needs_app version_app
   top = refl
 
   -- the words after the name of the program

@@ -11,16 +11,16 @@ use Rattle.clap.specs.Walk.{Held, Names, finished, nothing_held, settled, walk, 
 use Rattle.clap.specs.declared.ArgMatches.{ArgMatches}
 use Rattle.clap.specs.declared.ArgMatches.TheViews.{out-ArgMatches}
 use Rattle.pam_words.specs.Words.{access_app, bare_app, check_app, compare_app, decide_app, explain_app, facts_app, graph_app, outcomes_app, pamcheck_app}
-use Rattle.pam_words.specs.Words.{paths_app, policy_app, show_app, time_app, version_app}
+use Rattle.pam_words.specs.Words.{needs_app, paths_app, policy_app, show_app, time_app, version_app}
 
 pub is_simple-pamcheck : is_simple pamcheck_app ≡ true
 unfolding pamcheck_app bare_app check_app compare_app policy_app show_app decide_app paths_app outcomes_app graph_app access_app time_app explain_app
-    facts_app version_app
+    facts_app needs_app version_app
 is_simple-pamcheck = refl
 
 pub is_simple_and_free-pamcheck : is_simple_and_free pamcheck_app ≡ true
 unfolding pamcheck_app bare_app check_app compare_app policy_app show_app decide_app paths_app outcomes_app graph_app access_app time_app explain_app
-    facts_app version_app
+    facts_app needs_app version_app
 is_simple_and_free-pamcheck = refl
 
 abbrev pub pairs : {B X Y : Type 0} → (B → X) → (B → Y) → Option B → Option (X × Y)
@@ -84,7 +84,7 @@ fault_of-wanted a words required none e =
 
 wants_command : (built pamcheck_app).top.subcommand_required ≡ true
 unfolding pamcheck_app bare_app check_app compare_app policy_app show_app decide_app paths_app outcomes_app graph_app access_app time_app explain_app
-    facts_app version_app
+    facts_app needs_app version_app
 wants_command = refl
 
 -- words that name no command are refused

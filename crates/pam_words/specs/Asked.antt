@@ -98,6 +98,11 @@ pub record PolicyTask : Type 0 where
   pub fail_on : LevelName
   pub knowledge : KnowledgeText
 
+pub record NeedsTask : Type 0 where
+  pub source : SourceText
+  pub kind : Kind
+  pub knowledge : KnowledgeText
+
 -- the service and the kind are all if none is named. The folders of modules, a facts file and a returns file may be named, and the codes
 -- of modules
 pub record CompareTask : Type 0 where
@@ -110,10 +115,10 @@ pub record CompareTask : Type 0 where
   pub returns : Option Text
   pub settings : List SettingText
 
--- a release whose reading is shown may be named
+-- the kinds are all if none is named. A release whose reading is shown may be named
 pub record ShowTask : Type 0 where
   pub source : SourceText
-  pub kind : Kind
+  pub kind : Option Kind
   pub release : Option ReleaseName
 
 pub data TaskText : Type 0 where
@@ -127,6 +132,7 @@ pub data TaskText : Type 0 where
   outcomes : OutcomesTask → TaskText
   graph : GraphTask → TaskText
   policy : PolicyTask → TaskText
+  needs : NeedsTask → TaskText
   explain : Option Text → TaskText
   facts : TaskText
   version : TaskText

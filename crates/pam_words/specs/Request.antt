@@ -4,7 +4,7 @@ use Rattle.std.specs.Str.{bytes_eq}
 use Rattle.pam_conf.specs.declared.Kind.{Kind}
 use Rattle.clap.specs.Words.{Row, Text, first_of}
 use Rattle.pam_words.specs.Asked.{AnswersText, KnowledgeText, MomentText, Refusal, RequestText, SourceText, TaskText}
-use Rattle.pam_words.specs.Asked.{access, check, compare, decide, explain, facts, graph, outcomes, paths, policy, show, time, version}
+use Rattle.pam_words.specs.Asked.{access, check, compare, decide, explain, facts, graph, needs, outcomes, paths, policy, show, time, version}
 use Rattle.pam_words.specs.Asked.{answers_name, any, both_ends, both_filters, code_name, format_name, kind_name, level_name, possible}
 use Rattle.pam_words.specs.Asked.{login, moment, release_form, source}
 use Rattle.pam_words.specs.Candidates.{services_among}
@@ -66,12 +66,13 @@ compare_task rows =
       settings = settings;
     })))))
 
--- `show SERVICE KIND`
+-- `show SERVICE [KIND]`
 abbrev pub show_task : List Row → Result TaskText Refusal
 show_task rows =
-    stack_of rows >>= λ stack.
+    or_refuse (source_of rows) source (λ from.
+    or_refuse (kind_if_named rows) kind_name (λ kind.
     or_refuse (release_of rows) release_form (λ release.
-    Ok (show (record { source = stack.0; kind = stack.1; release = release })))
+    Ok (show (record { source = from; kind = kind; release = release })))))
 
 -- `decide SERVICE KIND [CODE]...`
 abbrev pub decide_task : List Row → Result TaskText Refusal
@@ -171,6 +172,14 @@ policy_task rows =
       knowledge = knowledge;
     }))))
 
+-- `needs SERVICE KIND`, where the same is known of modules
+abbrev pub needs_task : List Row → Result TaskText Refusal
+needs_task rows =
+    or_refuse (source_or_root rows) source (λ from.
+    or_refuse (kind_of_rows rows) kind_name (λ kind.
+    knowledge_of (possible (first_of (codes "facts") rows)) rows >>= λ knowledge.
+    Ok (needs (record { source = from; kind = kind; knowledge = knowledge }))))
+
 -- `explain [NUMBER]`
 abbrev pub explain_task : List Row → Result TaskText Refusal
 explain_task rows = Ok (explain (first_of (codes "number") rows))
@@ -192,6 +201,7 @@ stack_task_of command rows =
     else if bytes_eq command (codes "paths") then paths_task rows
     else if bytes_eq command (codes "outcomes") then outcomes_task rows
     else if bytes_eq command (codes "graph") then graph_task rows
+    else if bytes_eq command (codes "needs") then needs_task rows
     else other_task_of command rows
 
 -- THE TASK of a command

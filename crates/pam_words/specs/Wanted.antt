@@ -21,7 +21,7 @@ use Rattle.pam_words.specs.declared.wanted.PagePart.{PagePart}
 use Rattle.pam_words.specs.declared.wanted.PagePart.TheVariants.{Whole, After, Before}
 use Rattle.pam_words.specs.declared.wanted.Task.{Task}
 use Rattle.pam_words.specs.declared.wanted.Task.TheVariants.{Check, Compare, Show, Decide, Access, Time, Paths, Outcomes, Graph, Policy}
-use Rattle.pam_words.specs.declared.wanted.Task.TheVariants.{Explain, Facts, Version}
+use Rattle.pam_words.specs.declared.wanted.Task.TheVariants.{Explain, Facts, Needs, Version}
 use Rattle.pam_words.specs.declared.wanted.Request.{Request}
 use Rattle.pam_words.specs.declared.wanted.Usage.{Usage}
 use Rattle.pam_words.specs.declared.wanted.Usage.TheVariants as usage
@@ -126,6 +126,11 @@ task_view (Policy source policies fail_on knowledge) = spec.policy (record {
   source = source_view source;
   policies = map (λ s. s.now) policies.items;
   fail_on = fail_on;
+  knowledge = knowledge_view knowledge;
+})
+task_view (Needs source kind knowledge) = spec.needs (record {
+  source = source_view source;
+  kind = kind;
   knowledge = knowledge_view knowledge;
 })
 task_view (Explain number) = spec.explain (option_copied number)

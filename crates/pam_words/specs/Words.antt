@@ -120,9 +120,13 @@ version_app = new_app (codes "version")
 abbrev pub stack_app : Text → App
 stack_app name = with_source (with_rule (service_app name) (required_rule (codes "kind")))
 
--- `show SERVICE KIND`
+-- `NAME SERVICE [KIND]`, with a source
+abbrev pub stacks_app : Text → App
+stacks_app name = with_source (with_rule (service_app name) (optional_rule (codes "kind")))
+
+-- `show SERVICE [KIND]`
 unfoldable pub show_app : App
-show_app = with_json (with_options (stack_app (codes "show")) (codes "as" ∷ []))
+show_app = with_json (with_options (stacks_app (codes "show")) (codes "as" ∷ []))
 
 -- `decide SERVICE KIND [CODE]...`
 unfoldable pub decide_app : App
@@ -172,6 +176,10 @@ policy_app =
     with_knowledge (with_options (with_json (with_source (with_rule (new_app (codes "policy")) (required_words_rule (codes "policy")))))
     (codes "fail-on" ∷ codes "facts" ∷ []))
 
+-- `needs SERVICE KIND`
+unfoldable pub needs_app : App
+needs_app = with_knowledge (with_options (with_json (stack_app (codes "needs"))) (codes "facts" ∷ []))
+
 -- `NAME SERVICE`, with the option that names what a login is looked up in, a user and a terminal
 abbrev pub login_app : Text → Rule → App
 login_app name looked_up =
@@ -211,7 +219,7 @@ with_listings app = with_subcommand app paths_app.top
 
 -- the commands about all runs of a stack
 abbrev pub with_graphs : App → App
-with_graphs app = with_subcommand (with_subcommand app outcomes_app.top) graph_app.top
+with_graphs app = with_subcommand (with_subcommand (with_subcommand app outcomes_app.top) graph_app.top) needs_app.top
 
 -- the commands that look a login up
 abbrev pub with_lookups : App → App

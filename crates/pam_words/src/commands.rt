@@ -90,7 +90,15 @@ pub(crate) static STACKS: [CommandRow; 2] = [
         about: "Shows the modules of a stack",
         examples: examples::SHOW,
         args: &[
-            SERVICE, KIND, Dir, VendorDir, Conf, Root, With, Release, Json,
+            SERVICE,
+            KIND_IF_NAMED,
+            Dir,
+            VendorDir,
+            Conf,
+            Root,
+            With,
+            Release,
+            Json,
         ],
     },
     CommandRow {
@@ -113,7 +121,7 @@ pub(crate) static LISTINGS: [CommandRow; 1] = [CommandRow {
 }];
 
 /// The commands about all runs of a stack.
-pub(crate) static GRAPHS: [CommandRow; 2] = [
+pub(crate) static GRAPHS: [CommandRow; 3] = [
     CommandRow {
         name: "outcomes",
         about: "Counts the paths through a stack by their decisions",
@@ -130,6 +138,15 @@ pub(crate) static GRAPHS: [CommandRow; 2] = [
         args: &[
             SERVICE, KIND, Dir, VendorDir, Conf, Root, With, Format, Answers, Facts, Modules, User,
             Rhost, Tty, Access, Time, Group, Returns, Set, At, AtUnix, Zone,
+        ],
+    },
+    CommandRow {
+        name: "needs",
+        about: "Lists the rules that hold of a stack, as a policy",
+        examples: examples::NEEDS,
+        args: &[
+            SERVICE, KIND, Dir, VendorDir, Conf, Root, With, Json, Facts, Modules, User, Rhost,
+            Tty, Access, Time, Group, Returns, SetByName, At, AtUnix, Zone,
         ],
     },
 ];

@@ -14,7 +14,7 @@ pub(crate) const POLICY: &str = "Examples, in the folder examples:
 
 pub(crate) const SHOW: &str = "Examples, in the folder examples:
   pamcheck show login auth --dir tree
-  pamcheck show sshd account --dir sshd/pam.d";
+  pamcheck show sshd --dir sshd/pam.d";
 
 pub(crate) const DECIDE: &str = "Examples, in the folder examples:
   pamcheck decide login auth auth_err auth_err success success --dir tree
@@ -31,6 +31,10 @@ pub(crate) const OUTCOMES: &str = "Examples, in the folder examples:
 pub(crate) const GRAPH: &str = "Examples, in the folder examples:
   pamcheck graph sshd auth --dir sshd/pam.d --returns sshd/ldap-down --format svg
   pamcheck graph sshd auth --dir sshd/pam.d --returns sshd/ldap-down --format mermaid";
+
+pub(crate) const NEEDS: &str = "Examples, in the folder examples:
+  pamcheck needs sshd auth --dir policies/mfa/holds
+  pamcheck needs sshd auth --dir sshd/pam.d --returns sshd/ldap-down";
 
 pub(crate) const ACCESS: &str = "Examples, in the folder examples:
   pamcheck access login --access tables/access.conf --group tables/group --user carol

@@ -7,7 +7,7 @@ ghost use Rattle.std.specs.Option.{option_copied};
 ghost use Rattle.clap.specs.Words.{found_of, rows_of, first_of, all_of, takes, fault_of, subcommand_of};
 ghost use Rattle.pam_words.specs.Request.{access_task, decide_task, other_task_of, request_of, stack_of, stack_task_of, task_of, time_task};
 ghost use Rattle.pam_words.specs.Decisions.{code_named as code_of_name, codes_named as codes_of_names};
-ghost use Rattle.pam_words.specs.Values.{codes_of_rows, is_on as is_on_in, output_of};
+ghost use Rattle.pam_words.specs.Values.{codes_of_rows, is_on as is_on_in, kind_if_named as kind_in, output_of};
 ghost use Rattle.pam_words.specs.Values.{instant_of, kind_of_rows, login_of, moment_of, seconds_of, source_of, text_of, texts_of as texts_in};
 ghost use Rattle.pam_words.specs.Wanted.{Answers, Gives, IsRead, IsRefusal, Reads, RefusesBy, login_view, moment_view, source_view};
 ghost use Rattle.pam_words.specs.inner.Wanted.{GivesTask, IsRefusalOf};
@@ -19,6 +19,7 @@ mod compare;
 mod decisions;
 mod graph;
 mod knowledge;
+mod needs;
 mod paths;
 mod policy;
 mod settings;
@@ -87,6 +88,19 @@ fn kind(matches: &ArgMatches<'_>) -> Option<Kind>
     ensures { result ≡ kind_of_rows (rows_of (found_of matches.now)) }
 {
     Kind::from_name(text(matches, "kind").as_bytes())
+}
+
+/// Returns the kind, if one is named, or `None` if it is the name of none.
+fn kind_if_named(matches: &ArgMatches<'_>) -> Option<Option<Kind>>
+    ensures { result ≡ kind_in (rows_of (found_of matches.now)) }
+{
+    match value(matches, "kind") {
+        Some(name) => match Kind::from_name(name.as_bytes()) {
+            Some(kind) => Some(Some(kind)),
+            None => None,
+        },
+        None => Some(None),
+    }
 }
 
 #[tactic(auto, unfolding(crate::specs::Decisions::code_named))]
@@ -286,6 +300,8 @@ fn stack_task<'a>(alloc: Global, command: &str, matches: &ArgMatches<'a>) -> Res
         knowledge::outcomes(alloc, matches)
     } else if command == "graph" {
         graph::graph(alloc, matches)
+    } else if command == "needs" {
+        needs::needs(alloc, matches)
     } else {
         other_task(alloc, command, matches)
     }

@@ -189,10 +189,11 @@ pub enum Task<'a> {
         kind: Option<Kind>,
         given: CompareFiles<'a>,
     },
-    /// Lists the stack, or the rules of the service's own file as a release reads them, if one is named.
+    /// Lists the stack of this kind, or of each kind if none is named; or the rules of the service's own file as a release reads them, if
+    /// one is named.
     Show {
         source: ConfSource<'a>,
-        kind: Kind,
+        kind: Option<Kind>,
         release: Option<ReleaseName>,
     },
     /// Runs the stack with one code for each of its modules, in order.
@@ -245,6 +246,13 @@ pub enum Task<'a> {
         /// Its answers are `Answers::Possible`.
         knowledge: KnowledgeSource<'a>,
     },
+    /// Lists the rules that hold of the stack.
+    Needs {
+        source: ConfSource<'a>,
+        kind: Kind,
+        /// Its answers are `Answers::Possible`.
+        knowledge: KnowledgeSource<'a>,
+    },
     /// Says what a fault or finding means, by its number, or lists all of them.
     Explain(Option<&'a str>),
     /// Lists what is known of modules.
@@ -285,8 +293,8 @@ pub enum Usage {
     /// U1 too: a word is not UTF-8. `request` never returns it; its caller does, while collecting the words.
     #[error("a word is not UTF-8")]
     NotUtf8,
-    /// U2: not exactly one source is given, or `--vendor-dir` without `--dir`. `check`, `policy` and `compare` need none, and
-    /// `compare` takes one form of its sources.
+    /// U2: not exactly one source is given, or `--vendor-dir` without `--dir`. `check`, `policy`, `needs` and `compare` need none,
+    /// and `compare` takes one form of its sources.
     #[error("not exactly one of --dir, --conf and --root, or --vendor-dir without --dir")]
     Source,
     /// U3: KIND is not the name of a kind.
@@ -311,7 +319,7 @@ pub enum Usage {
     #[error("a table without a user")]
     Login,
     /// U6: not exactly one form of the moment is given, `--zone` is given without `--at-unix`, or the seconds are not
-    /// 1 to 12 digits. `paths`, `outcomes`, `graph` and `policy` need a moment only for a time table.
+    /// 1 to 12 digits. `paths`, `outcomes`, `graph`, `needs` and `policy` need a moment only for a time table.
     #[error("not exactly one moment")]
     Moment,
     /// U8: both `--after` and `--before` are given.

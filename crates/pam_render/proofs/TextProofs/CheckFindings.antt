@@ -44,7 +44,7 @@ line_parts place level name said = simp (append_assoc, append-nil)
 pub finding_line-is : (names : Names) (place : Place) (finding : Finding) (word : Option MisspelledText) (level name : List ℕ)
     → level ≡ say.level_name (level_of finding.problem) → name ≡ problem_name finding.problem
     → ((place_text names.paths place ++ concat (level ∷ codes ": " ∷ name ∷ codes ": " ∷ []))
-    ++ sentence names place.line finding.met finding.problem word) ++ codes "\n" ≡ finding_line names (place, finding) word
+    ++ sentence names place finding.met finding.problem word) ++ codes "\n" ≡ finding_line names (place, finding) word
 unfolding finding_line
 finding_line-is names place finding word level name e f =
-    line_parts (place_text names.paths place) level name (sentence names place.line finding.met finding.problem word) ∙ rw (e, f) refl
+    line_parts (place_text names.paths place) level name (sentence names place finding.met finding.problem word) ∙ rw (e, f) refl

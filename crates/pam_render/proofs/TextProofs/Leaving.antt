@@ -3,8 +3,6 @@ use Rattle.std.proofs.Common.{◌≡◌, ◌∙◌, ℕ, Bool, true, false, List
 use Rattle.std.specs.Option.{option_copied}
 use Rattle.pam_codes.specs.Out.{Out}
 use Rattle.pam_conf.specs.Files.{Folder}
-use Rattle.pam_conf.specs.Resolution.{resolved}
-use Rattle.pam_conf.specs.Stack.{Items}
 use Rattle.pam_conf.specs.declared.conf_error.ConfError.{ConfError}
 use Rattle.pam_conf.specs.declared.rule.Kind.{Kind}
 use Rattle.pam_explain.specs.Explanation.{Explanation}
@@ -13,13 +11,14 @@ use Rattle.pam_render.specs.json_text.Text.{IsJson, PrintsIfAny, has_json}
 use Rattle.pam_render.proofs.PartsProofs.Printed.{printed-as}
 use Rattle.pam_render.specs.parts.Prints.{PrintsBy}
 use Rattle.pam_paths.specs.declared.cursor.CursorError.{CursorError}
-use Rattle.pam_report.specs.Answer.{AnswersBy, answer_of, explained, explained_by, shown, shown_by, with_stack}
+use Rattle.pam_report.specs.Answer.{AnswersBy, answer_of, explained, explained_by, shown_by}
 use Rattle.pam_report.specs.Candidates.{CandidateText}
 use Rattle.pam_report.specs.Finds.{Finds, Refuses}
 use Rattle.pam_report.specs.Memory.{IsWanting, Wants, wants as wants_of}
 use Rattle.pam_report.specs.Released.{ReleasedValue, released}
-use Rattle.pam_report.specs.Reply.{Answer, Reply, status_of, wants_memory}
+use Rattle.pam_report.specs.Reply.{Answer, Released, Reply, StackValue, Stacks, status_of, wants_memory}
 use Rattle.pam_report.specs.ReplyViews.{reply_view}
+use Rattle.pam_report.specs.Show.{for_each, kinds_shown, stack_in}
 use Rattle.pam_report.specs.declared.fault.Fault.{Fault}
 use Rattle.pam_report.specs.declared.fault.Fault.TheVariants as faults
 use Rattle.pam_report.specs.declared.inputs.Inputs.{Inputs}
@@ -29,7 +28,7 @@ use Rattle.pam_words.specs.declared.wanted.OutputForm.TheVariants.{Json}
 use Rattle.pam_words.specs.declared.wanted.ReleaseName.{ReleaseName}
 use Rattle.pam_words.specs.declared.wanted.Task.{Task}
 use Rattle.pam_words.specs.declared.wanted.Task.TheVariants.{Show, Decide, Access, Time, Paths, Outcomes, Graph, Check, Compare, Policy, Explain}
-use Rattle.pam_words.specs.declared.wanted.Task.TheVariants.{Facts, Version}
+use Rattle.pam_words.specs.declared.wanted.Task.TheVariants.{Facts, Needs, Version}
 use Rattle.pam_render.specs.text.Leaves.{LeavesFault, LeavesSome}
 use Rattle.pam_render.specs.text.Text.{IsJsonOrText, IsText as IsPlainText, IsTextIn}
 
@@ -48,6 +47,7 @@ answers-by One Other go service candidates (Graph source kind format knowledge) 
 answers-by One Other go service candidates (Check source services fail_on named) files inputs h = go _ h
 answers-by One Other go service candidates (Compare old new named kind given) files inputs h = go _ h
 answers-by One Other go service candidates (Policy source names fail_on knowledge) files inputs h = (h.0, h.1, go _ h.2)
+answers-by One Other go service candidates (Needs source kind knowledge) files inputs h = (h.0, h.1, go _ h.2)
 answers-by One Other go service candidates (Explain number) files inputs h = go _ h
 answers-by One Other go service candidates Facts files inputs h = go _ h
 answers-by One Other go service candidates Version files inputs h = go _ h
@@ -146,17 +146,17 @@ abbrev page_in : Answer → Bool
 page_in (Ok reply) = wants_memory reply
 page_in (Err fault) = false
 
-no_page : (service : List ℕ) (kind : Kind) (files : Folder) (given : Result Items ConfError) → page_in (with_stack given (shown service kind files)) ≡ false
-no_page service kind files (Err e) = refl
-no_page service kind files (Ok items) = refl
+no_stacks : (given : Result (List StackValue) ConfError) → page_in (answer_of Stacks given) ≡ false
+no_stacks (Err e) = refl
+no_stacks (Ok stacks) = refl
 
-no_rules : (given : Result ReleasedValue ConfError) → page_in (answer_of given) ≡ false
+no_rules : (given : Result (List ReleasedValue) ConfError) → page_in (answer_of Released given) ≡ false
 no_rules (Err e) = refl
-no_rules (Ok value) = refl
+no_rules (Ok readings) = refl
 
-no_shown : (release : Option ReleaseName) (service : List ℕ) (kind : Kind) (files : Folder) → page_in (shown_by release service kind files) ≡ false
-no_shown None service kind files = no_page service kind files (resolved files service kind)
-no_shown (Some release) service kind files = no_rules (released service kind release files)
+no_shown : (release : Option ReleaseName) (service : List ℕ) (kind : Option Kind) (files : Folder) → page_in (shown_by release service kind files) ≡ false
+no_shown None service kind files = no_stacks (for_each (stack_in service files) (kinds_shown kind))
+no_shown (Some release) service kind files = no_rules (for_each (λ kind. released service kind release files) (kinds_shown kind))
 
 no_explanation : (found : Option Explanation) → page_in (explained_by found) ≡ false
 no_explanation None = refl
@@ -184,6 +184,7 @@ page-wants service candidates (Graph source kind format knowledge) files inputs 
 page-wants service candidates (Check source services fail_on named) files inputs reply h page = refl
 page-wants service candidates (Compare old new named kind given) files inputs reply h page = refl
 page-wants service candidates (Policy source names fail_on knowledge) files inputs reply h page = refl
+page-wants service candidates (Needs source kind knowledge) files inputs reply h page = refl
 page-wants service candidates (Explain number) files inputs reply h page =
     absurd (not_both (sym page ∙ ap page_in (sym h) ∙ no_explained (option_copied number)))
 page-wants service candidates Facts files inputs reply h page = absurd (not_both (sym page ∙ ap page_in (sym h)))

@@ -2,7 +2,7 @@
 use Rattle.std.specs.Prelude.{ℕ, ◌==◌, Bool, true, false, List, [], ◌∷◌, ◌++◌, codes, map, Option, None, Some, option_map, slice_index_or}
 use Rattle.std.specs.Prelude.{if◌then◌else◌}
 use Rattle.std.specs.List.{after_first, before_first}
-use Rattle.std.specs.Option.{option_map_or}
+use Rattle.std.specs.Option.{option_and_then, option_map_or}
 use Rattle.pam_codes.specs.SetText.{name_of}
 use Rattle.pam_conf.specs.Stack.{Items}
 use Rattle.pam_conf.specs.declared.rule.Kind.{Kind}
@@ -49,10 +49,10 @@ place_members file at level name said members =
 
 -- THE STACKS THAT MEET IT
 
--- the stacks that meet a problem of a line; a problem of a whole stack has none
-abbrev pub met_unless : Option Met → Option (ℕ × Kind) → Option Met
+-- the stacks that meet a problem; one that names its service has none
+abbrev pub met_unless : Option Met → Option ℕ → Option Met
 met_unless met None = met
-met_unless met (Some stack) = None
+met_unless met (Some service) = None
 
 abbrev pub if_named : Bool → Kind → List Kind
 if_named true type = type ∷ []
@@ -91,10 +91,19 @@ answer_object items answer =
 abbrev pub way_array : Option WayIn → Data
 way_array way = array (option_map_or (λ w. items_of (map (answer_object w.stack) w.answers.items)) way no_items)
 
+-- that of the first service that meets a problem
+abbrev pub first_way_array : List (Option WayIn) → Option Met → Data
+first_way_array ways None = array no_items
+first_way_array ways (Some met) = way_array (slice_index_or ways met.first None)
+
 -- of S2 alone
-abbrev pub answers_array : List (Option WayIn) → Problem → Data
-answers_array ways (problems.LetsAnybodyIn service is_greeter) = way_array (slice_index_or ways service None)
-answers_array ways problem = array no_items
+abbrev pub answers_array : List (Option WayIn) → Option Met → Problem → Data
+answers_array ways met (problems.LetsAnybodyIn service is_greeter) = first_way_array ways met
+answers_array ways met problem = array no_items
+
+-- the service that a problem of a whole stack names
+abbrev pub service_of : Problem → Option ℕ
+service_of problem = option_and_then (λ stack. stack.0) (stack_of problem)
 
 -- THE LINE of a finding
 abbrev pub stack_members : Option (List ℕ) → Option Kind → List (List ℕ) → Option Met → Data → List (List ℕ × Data)
@@ -106,8 +115,8 @@ abbrev pub finding_members : Names → Place → Finding → Option MisspelledTe
 finding_members names place finding word =
     place_members (path_of names.paths place.file) place.line (level_of finding.problem) (problem_name finding.problem)
     (joined (said_parts place.line finding.problem word))
-    (stack_members (option_map (λ stack. text_at names.services stack.0) (stack_of finding.problem)) (option_map (λ stack. stack.1) (stack_of finding.problem))
-    names.services (met_unless finding.met (stack_of finding.problem)) (answers_array names.ways_in finding.problem))
+    (stack_members (option_map (text_at names.services) (service_of finding.problem)) (option_map (λ stack. stack.1) (stack_of finding.problem))
+    names.services (met_unless finding.met (service_of finding.problem)) (answers_array names.ways_in finding.met finding.problem))
 
 unfoldable pub finding_json : Names → Place → Finding → Option MisspelledText → List ℕ
 finding_json names place finding word = line (finding_members names place finding word)

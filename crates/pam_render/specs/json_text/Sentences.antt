@@ -40,7 +40,7 @@ abbrev pub table_difference_parts : TableDifference → List (List ℕ)
 table_difference_parts difference = tables.meaning_of difference ∷ codes "; " ∷ tables.mending_of difference ∷ []
 
 -- a problem of a whole stack begins with its kind
-abbrev pub subject_name : Option (ℕ × Kind) → List ℕ
+abbrev pub subject_name : Option (Option ℕ × Kind) → List ℕ
 subject_name None = []
 subject_name (Some stack) = kind_name stack.1
 

@@ -1,11 +1,11 @@
--- The JSON of `show`: the stack of a service, rule by rule, in the order of pam.conf(5).
+-- The JSON of `show`: the stacks of a service, rule by rule, in the order of pam.conf(5).
 use Rattle.std.specs.Prelude.{ℕ, List, ◌∷◌, [], codes}
 use Rattle.pam_codes.specs.ControlText.{control_text}
 use Rattle.pam_conf.specs.Files.{Folder}
 use Rattle.pam_conf.specs.Stack.{ModuleText, SubText}
 use Rattle.pam_render.specs.json_lines.Line.{kind, line, readable, strings}
 use Rattle.pam_render.specs.parts.Files.{name_at}
-use Rattle.pam_render.specs.parts.Items.{Head, Line, Module, Sub, stack_lines}
+use Rattle.pam_render.specs.parts.Items.{Head, Line, Module, Sub, stacks_lines}
 use Rattle.pam_report.specs.Reply.{StackValue}
 use Rattle.serde_json.specs.Data.{Data, boolean, number, string, unsigned}
 use Rattle.pam_render.specs.json_text.Header.{stack_members}
@@ -35,6 +35,6 @@ line_json (Head service kind modules) = line (stack_members service kind modules
 line_json (Module files level m) = module_json files level m
 line_json (Sub files level s) = sub_json files level s
 
--- THE JSON of `show`: which lines come, in which order, and in how many substacks, says `stack_lines`
-abbrev pub stack_json : StackValue → List ℕ
-stack_json stack = stack_lines line_json stack
+-- THE JSON of `show`: which lines come, in which order, and in how many substacks, says `stacks_lines`
+abbrev pub stacks_json : List StackValue → List ℕ
+stacks_json stacks = stacks_lines line_json stacks

@@ -1,5 +1,6 @@
--- The lines of a stack in the order of pam.conf(5), in a form of answers.
+-- The lines of stacks in the order of pam.conf(5), in a form of answers.
 use Rattle.std.specs.Prelude.{ℕ, ◌+◌, List, [], ◌++◌}
+use Rattle.std.specs.List.{flat_map}
 use Rattle.pam_conf.specs.Files.{Folder}
 use Rattle.pam_conf.specs.Stack.{Items, End, ThenModule, ThenSub, ModuleText, SubText, module_count}
 use Rattle.pam_conf.specs.declared.rule.Kind.{Kind}
@@ -23,6 +24,10 @@ module _ (line : Line → List ℕ) where
   items_lines files level (ThenSub s inner rest) =
       line (Sub files level s) ++ items_lines files (level + 1) inner ++ items_lines files level rest
 
-  -- THE LINES of a stack
+  -- the lines of a stack
   abbrev pub stack_lines : StackValue → List ℕ
   stack_lines stack = line (Head stack.service stack.kind (module_count stack.items)) ++ items_lines stack.files 0 stack.items
+
+  -- THE LINES of stacks, one stack after another
+  abbrev pub stacks_lines : List StackValue → List ℕ
+  stacks_lines stacks = flat_map stack_lines stacks

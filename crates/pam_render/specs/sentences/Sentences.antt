@@ -133,7 +133,7 @@ vain_sentence =
 abbrev pub link_sentence : List ℕ
 link_sentence = codes "the file is a link that leads out of the folder, so none of its words are shown; copy the file here, if it belongs here"
 
--- S15 to S18 and S23, where the argument is not known
+-- S15 to S18, S20 and S23, where the argument is not known
 abbrev pub argument_sentence : List ℕ
 argument_sentence = codes "an argument is not one that the module takes; mend it, or remove it"
 
@@ -160,6 +160,11 @@ argument_naming arguments.Longer word =
 argument_naming arguments.OtherKind word = record { before = codes " does not read "; after = codes " in this kind"; mending = codes "remove it" }
 argument_naming arguments.BadValue word =
     record { before = codes " cannot use the value of "; after = []; mending = codes "write one that its manual page names" }
+argument_naming arguments.NoToken word = record {
+  before = codes " takes by ";
+  after = codes " only a password that a module before it asked for, and no run asks for one, so it fails";
+  mending = codes "remove the argument, or ask for the password before it";
+}
 argument_naming arguments.Weak word =
     record { before = codes " stores passwords by a weak hash with "; after = []; mending = codes "write yescrypt in its place" }
 

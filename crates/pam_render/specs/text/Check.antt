@@ -1,12 +1,13 @@
 -- The text of `check`: a line for each finding, and a last line with their numbers.
-use Rattle.std.specs.Prelude.{ℕ, ◌-◌, ◌==◌, ◌||◌, nat_lt, Bool, false, List, [], ◌∷◌, ◌++◌, codes}
+use Rattle.std.specs.Prelude.{ℕ, ◌-◌, ◌==◌, ◌&&◌, ◌||◌, nat_lt, Bool, false, List, [], ◌∷◌, ◌++◌, codes}
 use Rattle.std.specs.Prelude.{decimal, if◌then◌else◌, Option, None, Some, slice_index_or}
 use Rattle.std.specs.List.{flat_map}
 use Rattle.std.specs.Option.{option_map_or}
+use Rattle.std.specs.Str.{bytes_eq}
 use Rattle.pam_codes.specs.SetText.{name_of}
 use Rattle.pam_conf.specs.Stack.{Items}
 use Rattle.pam_conf.specs.declared.rule.Form.{Form}
-use Rattle.pam_conf.specs.declared.rule.Form.TheVariants.{Dir, Single}
+use Rattle.pam_conf.specs.declared.rule.Form.TheVariants.{Single}
 use Rattle.pam_conf.specs.declared.rule.Kind.{Kind}
 use Rattle.pam_findings.specs.host.Levels.{level_of}
 use Rattle.pam_facts.specs.declared.kinds.Kinds.{Kinds}
@@ -77,11 +78,11 @@ met_if_any services met = option_map_or (met_text services) met []
 -- THE SENTENCE
 
 -- ` of SERVICE` in pam.conf, whose findings have one place for all services
-abbrev pub of_service : Form → List (List ℕ) → ℕ → List ℕ
-of_service Dir services service = []
-of_service Single services service = codes " of " ++ shown_name (text_at services service)
+abbrev pub of_service : Form → List (List ℕ) → Option ℕ → List ℕ
+of_service Single services (Some service) = codes " of " ++ shown_name (text_at services service)
+of_service form services service = []
 
-abbrev pub kind_of_service : Names → Kind → ℕ → List ℕ
+abbrev pub kind_of_service : Names → Kind → Option ℕ → List ℕ
 kind_of_service names kind service = kind_name kind ++ of_service names.form names.services service
 
 -- `NUMBER NAME CODE`
@@ -104,30 +105,54 @@ way_text way = option_map_or (λ w. answers_text w.stack w.answers.items) way []
 abbrev pub way_in_at : List (Option WayIn) → ℕ → List ℕ
 way_in_at ways service = way_text (slice_index_or ways service None)
 
+-- of the first service that meets a problem
+abbrev pub first_way_in : List (Option WayIn) → Option Met → List ℕ
+first_way_in ways met = option_map_or (λ m. way_in_at ways m.first) met []
+
 -- the kind and the service of a problem of a whole stack
-abbrev pub subject_text : Names → Option (ℕ × Kind) → List ℕ
+abbrev pub subject_text : Names → Option (Option ℕ × Kind) → List ℕ
 subject_text names None = []
 subject_text names (Some stack) = kind_of_service names stack.1 stack.0
 
--- the stacks that meet a problem of a line
-abbrev pub met_unless : List (List ℕ) → Option Met → Option (ℕ × Kind) → List ℕ
-met_unless services met None = met_if_any services met
-met_unless services met (Some stack) = []
+-- one service alone meets a problem, and the name of the file is its name
+abbrev pub is_its_own : Names → Option ℕ → Met → Bool
+is_its_own names file met =
+    (met.services == 1) && bytes_eq (name_of_path (path_of names.paths file)) (text_at names.services met.first)
 
--- the first way in, or the stacks that meet the problem
-abbrev pub rest_text : Names → Option Met → Problem → List ℕ
-rest_text names met (problems.LetsAnybodyIn service is_greeter) = way_in_at names.ways_in service
-rest_text names met problem = met_unless names.services met (stack_of problem)
+-- the stacks that meet a problem of which a file is the cause, unless the file says so
+abbrev pub met_of_cause : Names → Option ℕ → Option Met → List ℕ
+met_of_cause names file None = []
+met_of_cause names file (Some met) = if is_its_own names file met then [] else met_text names.services met
+
+-- but none where the problem names its service
+abbrev pub met_unless_named : Names → Option ℕ → Option Met → Option ℕ → List ℕ
+met_unless_named names file met None = met_of_cause names file met
+met_unless_named names file met (Some service) = []
+
+-- the stacks that meet a problem of a line, or of a whole stack
+abbrev pub met_unless : Names → Option ℕ → Option Met → Option (Option ℕ × Kind) → List ℕ
+met_unless names file met None = met_if_any names.services met
+met_unless names file met (Some stack) = met_unless_named names file met stack.0
+
+-- the first way in, and the stacks that meet S2
+abbrev pub way_and_met : Names → Option ℕ → Option Met → Option ℕ → List ℕ
+way_and_met names file met service = first_way_in names.ways_in met ++ met_unless_named names file met service
+
+-- what comes after what is said
+abbrev pub rest_text : Names → Option ℕ → Option Met → Problem → List ℕ
+rest_text names file met (problems.LetsAnybodyIn service is_greeter) = way_and_met names file met service
+rest_text names file met problem = met_unless names file met (stack_of problem)
 
 -- what is wrong, how to mend it, and which stacks meet it; with the word that is wrong, if it is known
-unfoldable pub sentence : Names → ℕ → Option Met → Problem → Option MisspelledText → List ℕ
-sentence names line met problem word = subject_text names (stack_of problem) ++ say.said line problem word ++ rest_text names met problem
+unfoldable pub sentence : Names → Place → Option Met → Problem → Option MisspelledText → List ℕ
+sentence names place met problem word =
+    subject_text names (stack_of problem) ++ say.said place.line problem word ++ rest_text names place.file met problem
 
 -- A LINE: `PLACE: LEVEL: NUMBER NAME: SENTENCE`
 unfoldable pub finding_line : Names → Place × Finding → Option MisspelledText → List ℕ
 finding_line names entry word =
     place_text names.paths entry.0 ++ say.level_name (level_of entry.1.problem) ++ codes ": " ++ problem_name entry.1.problem ++ codes ": "
-    ++ sentence names entry.0.line entry.1.met entry.1.problem word ++ codes "\n"
+    ++ sentence names entry.0 entry.1.met entry.1.problem word ++ codes "\n"
 
 -- A LINE FOR A PROBLEM OF A TABLE: `PATH:LINE: LEVEL: NUMBER NAME: SENTENCE`
 abbrev pub table_place : TablePathsText → TableFinding → List ℕ

@@ -85,7 +85,11 @@ abbrev pub rule_lines : List ℕ → Option (List NumberedRule) → List ℕ
 rule_lines file None = []
 rule_lines file (Some rules) = flat_map (rule_line file) rules
 
--- THE TEXT of `show` with `--as`
+-- the rules of a kind
 abbrev pub released_text : ReleasedValue → List ℕ
 released_text value =
     release_front value.service value.kind value.release ++ count_text value.rules ++ rule_lines value.file value.rules
+
+-- THE TEXT of `show` with `--as`: one kind after another
+abbrev pub released_texts : List ReleasedValue → List ℕ
+released_texts values = flat_map released_text values

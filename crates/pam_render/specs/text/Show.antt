@@ -1,10 +1,10 @@
--- The text of `show`: the stack of a service, rule by rule, in the order of pam.conf(5).
+-- The text of `show`: the stacks of a service, rule by rule, in the order of pam.conf(5).
 use Rattle.std.specs.Prelude.{ℕ, Bool, true, false, List, ◌∷◌, [], ◌++◌, codes, decimal, replicate, ◌*◌}
 use Rattle.std.specs.List.{concat, flat_map}
 use Rattle.pam_codes.specs.ControlText.{control_text}
 use Rattle.pam_conf.specs.Files.{Folder}
 use Rattle.pam_conf.specs.Stack.{ModuleText, SubText}
-use Rattle.pam_render.specs.parts.Items.{Head, Line, Module, Sub, stack_lines}
+use Rattle.pam_render.specs.parts.Items.{Head, Line, Module, Sub, stacks_lines}
 use Rattle.pam_report.specs.Reply.{StackValue}
 use Rattle.pam_render.specs.text.Header.{header_text, name_at}
 use Rattle.pam_render.specs.text.WordText.{word_text}
@@ -47,6 +47,6 @@ line_text (Head service kind modules) = header_text service kind modules
 line_text (Module files level m) = module_line files level m
 line_text (Sub files level s) = sub_line files level s
 
--- THE TEXT of `show`: which lines come, in which order, and at which level, says `stack_lines`
-abbrev pub stack_text : StackValue → List ℕ
-stack_text stack = stack_lines line_text stack
+-- THE TEXT of `show`: which lines come, in which order, and at which level, says `stacks_lines`
+abbrev pub stacks_text : List StackValue → List ℕ
+stacks_text stacks = stacks_lines line_text stacks

@@ -1,7 +1,7 @@
 -- The text of a reply.
 use Rattle.std.specs.Prelude.{◌≡◌, ℕ, Bool, true, false, List, Result, Ok}
 use Rattle.pam_paths.specs.declared.cursor.CursorError.{CursorError}
-use Rattle.pam_report.specs.Reply.{Reply, Stack, Released, Run, Access, Time, Outcomes, Drawing, Page, Check, Compared, Policy, Explained, Explanations}
+use Rattle.pam_report.specs.Reply.{Reply, Stacks, Released, Run, Access, Time, Outcomes, Drawing, Page, Check, Compared, Policy, Needs, Explained, Explanations}
 use Rattle.pam_report.specs.Reply.{Facts, Version}
 use Rattle.pam_facts.specs.Table.{table_text}
 use Rattle.pam_render.specs.json_text.Text.{IsJson, has_json}
@@ -13,17 +13,18 @@ use Rattle.pam_render.specs.text.Compare.{compare_text}
 use Rattle.pam_render.specs.text.Decide.{run_text}
 use Rattle.pam_render.specs.text.Drawing.{IsDrawingText}
 use Rattle.pam_render.specs.text.Explain.{explanation_text, explanations_text}
+use Rattle.pam_render.specs.text.Needs.{needs_text}
 use Rattle.pam_render.specs.text.Outcomes.{outcomes_text}
 use Rattle.pam_render.specs.text.Page.{IsPageText}
 use Rattle.pam_render.specs.text.Policy.{policy_text}
-use Rattle.pam_render.specs.text.Released.{released_text}
-use Rattle.pam_render.specs.text.Show.{stack_text}
+use Rattle.pam_render.specs.text.Released.{released_texts}
+use Rattle.pam_render.specs.text.Show.{stacks_text}
 use Rattle.pam_render.specs.text.Tables.{access_text, time_text}
 
 -- THE TEXT of a reply. A page has none if its cursor is refused
 abbrev pub IsText : Reply → Result (List ℕ) CursorError → Type 0
-IsText (Stack stack) text = text ≡ Ok (stack_text stack)
-IsText (Released rules) text = text ≡ Ok (released_text rules)
+IsText (Stacks stacks) text = text ≡ Ok (stacks_text stacks)
+IsText (Released readings) text = text ≡ Ok (released_texts readings)
 IsText (Run run) text = text ≡ Ok (run_text run)
 IsText (Access answer table) text = text ≡ Ok (access_text answer table)
 IsText (Time found) text = text ≡ Ok (time_text found)
@@ -33,6 +34,7 @@ IsText (Page page) text = IsPageText page text
 IsText (Check found) text = text ≡ Ok (check_text found)
 IsText (Compared changes) text = text ≡ Ok (compare_text changes)
 IsText (Policy policies) text = text ≡ Ok (policy_text policies)
+IsText (Needs found) text = text ≡ Ok (needs_text found)
 IsText (Explained explanation) text = text ≡ Ok (explanation_text explanation)
 IsText Explanations text = text ≡ Ok explanations_text
 IsText Facts text = text ≡ Ok table_text

@@ -5,10 +5,11 @@ ghost use Rattle.pam_render.specs.json_text.Text.{PrintsIfAny};
 
 use crate::json_text::decide::write_run;
 use crate::json_text::form::AsJson;
+use crate::json_text::needs::write_needs;
 use crate::json_text::outcomes::write_outcomes;
 use crate::json_text::paths::PageJson;
 use crate::json_text::tables::{write_access, write_time};
-use crate::parts::{with_write_fault, write_check, write_compared, write_policy, write_stack};
+use crate::parts::{with_write_fault, write_check, write_compared, write_policy, write_stacks};
 use pam_codes::Out;
 use pam_report::{Fault, Reply};
 use std::alloc::Global;
@@ -26,7 +27,7 @@ pub fn print_if_any<W: Write>(
     ensures { PrintsIfAny W.contents out.old out.new result (reply_view reply.now) }
 {
     match reply {
-        Reply::Stack(stack) => Some(with_write_fault(write_stack(&AsJson, alloc, stack, out))),
+        Reply::Stacks(stacks) => Some(with_write_fault(write_stacks(&AsJson, alloc, stacks, out))),
         Reply::Run(run) => Some(with_write_fault(write_run(run, out))),
         Reply::Access(access) => Some(with_write_fault(write_access(*access, out))),
         Reply::Time(answer) => Some(with_write_fault(write_time(*answer, out))),
@@ -35,6 +36,7 @@ pub fn print_if_any<W: Write>(
         Reply::Check(check) => Some(write_check(&AsJson, alloc, check, out)),
         Reply::Compared(compared) => Some(with_write_fault(write_compared(&AsJson, compared, out))),
         Reply::Policy(policies) => Some(write_policy(&AsJson, alloc, policies, out)),
+        Reply::Needs(found) => Some(with_write_fault(write_needs(found, out))),
         _ => None,
     }
 }

@@ -1,11 +1,11 @@
 //! The walk over the items of a stack, in the order of pam.conf(5).
 
-ghost use Rattle.std.specs.Prelude.{◌≡◌, ◌+◌, ◌≤◌};
+ghost use Rattle.std.specs.Prelude.{◌≡◌, ◌+◌, ◌≤◌, map};
 ghost use Rattle.pam_conf.specs.ItemsOf.{items_of};
 ghost use Rattle.pam_conf.specs.Stack.{depth};
 ghost use Rattle.pam_report.specs.ReplyViews.{stack_view};
 ghost use Rattle.pam_text.specs.Out.{Writes, WritesAndFlushes};
-ghost use Rattle.pam_render.specs.parts.Items.{items_lines, stack_lines};
+ghost use Rattle.pam_render.specs.parts.Items.{items_lines, stack_lines, stacks_lines};
 
 mod line;
 
@@ -55,14 +55,14 @@ fn put_items<L: StackLines, W: Write>(
     Ok(())
 }
 
-fn write_in<L: StackLines, W: Write>(
+fn put_in<L: StackLines, W: Write>(
     lines: &L,
     reply: &StackReply<'_>,
     files: &Files,
     out: &mut Out<W>,
 ) -> Result<(), Device>
     requires { (stack_view reply.now).files ≡ files.now }
-    ensures { WritesAndFlushes W.contents out.old out.new result (stack_lines L.line (stack_view reply.now)) }
+    ensures { Writes W.contents out.old out.new result (stack_lines L.line (stack_view reply.now)) }
 {
     let head = StackHead {
         service: reply.service,
@@ -70,21 +70,48 @@ fn write_in<L: StackLines, W: Write>(
         modules: reply.stack.modules(),
     };
     lines.put_line(StackLine::Head(head), out)?;
-    put_items(lines, files, 0, reply.stack.items(), out)?;
-    out.finish()
+    put_items(lines, files, 0, reply.stack.items(), out)
 }
 
-/// Writes the lines of a stack, and flushes.
-pub fn write_stack<L: StackLines, W: Write>(
+/// Writes the lines of a stack.
+fn put_stack<L: StackLines, W: Write>(
     lines: &L,
     alloc: Global,
     reply: &StackReply<'_>,
     out: &mut Out<W>,
 ) -> Result<(), Device>
-    ensures { WritesAndFlushes W.contents out.old out.new result (stack_lines L.line (stack_view reply.now)) }
+    ensures { Writes W.contents out.old out.new result (stack_lines L.line (stack_view reply.now)) }
 {
     match reply.files {
-        Some(files) => write_in(lines, reply, files, out),
-        None => write_in(lines, reply, &Files::new(alloc, Form::Dir), out),
+        Some(files) => put_in(lines, reply, files, out),
+        None => put_in(lines, reply, &Files::new(alloc, Form::Dir), out),
     }
+}
+
+/// Writes the lines of stacks, one stack after another.
+fn put_stacks<L: StackLines, W: Write>(
+    lines: &L,
+    alloc: Global,
+    replies: &[StackReply<'_>],
+    out: &mut Out<W>,
+) -> Result<(), Device>
+    ensures { Writes W.contents out.old out.new result (stacks_lines L.line (map stack_view replies.now)) }
+{
+    for reply in replies {
+        put_stack(lines, alloc, reply, out)?;
+    }
+    Ok(())
+}
+
+/// Writes the lines of stacks, and flushes.
+pub fn write_stacks<L: StackLines, W: Write>(
+    lines: &L,
+    alloc: Global,
+    replies: &[StackReply<'_>],
+    out: &mut Out<W>,
+) -> Result<(), Device>
+    ensures { WritesAndFlushes W.contents out.old out.new result (stacks_lines L.line (map stack_view replies.now)) }
+{
+    put_stacks(lines, alloc, replies, out)?;
+    out.finish()
 }

@@ -10,12 +10,13 @@ ghost use Rattle.pam_words.specs.Wanted.{candidate_view};
 ghost use Rattle.pam_words.specs.declared.wanted.OutputForm.TheVariants.{Json};
 
 use crate::json_text::print_if_any;
-use crate::parts::{with_write_fault, write_check, write_compared, write_policy, write_stack};
+use crate::parts::{with_write_fault, write_check, write_compared, write_policy, write_stacks};
 use crate::text::about::{write_known, write_version};
 use crate::text::decide::write_run;
 use crate::text::drawing::write_drawing;
 use crate::text::explain::{write_explanation, write_explanations};
 use crate::text::form::AsText;
+use crate::text::needs::write_needs;
 use crate::text::outcomes::write_outcomes;
 use crate::text::paths::PageText;
 use crate::text::released::write_released;
@@ -61,8 +62,8 @@ fn print_text<W: Write>(alloc: Global, reply: &Reply<'_>, out: &mut Out<W>) -> R
     ensures { Prints W.contents out.old out.new result (reply_view reply.now) }
 {
     match reply {
-        Reply::Stack(stack) => with_write_fault(write_stack(&AsText, alloc, stack, out)),
-        Reply::Released(rules) => with_write_fault(write_released(rules, out)),
+        Reply::Stacks(stacks) => with_write_fault(write_stacks(&AsText, alloc, stacks, out)),
+        Reply::Released(readings) => with_write_fault(write_released(readings, out)),
         Reply::Run(run) => with_write_fault(write_run(run, out)),
         Reply::Access(access) => with_write_fault(write_access(*access, out)),
         Reply::Time(answer) => with_write_fault(write_time(*answer, out)),
@@ -70,6 +71,7 @@ fn print_text<W: Write>(alloc: Global, reply: &Reply<'_>, out: &mut Out<W>) -> R
         Reply::Check(check) => write_check(&AsText, alloc, check, out),
         Reply::Compared(compared) => with_write_fault(write_compared(&AsText, compared, out)),
         Reply::Policy(policies) => write_policy(&AsText, alloc, policies, out),
+        Reply::Needs(found) => with_write_fault(write_needs(found, out)),
         Reply::Explained(explanation) => with_write_fault(write_explanation(explanation, out)),
         Reply::Explanations => with_write_fault(write_explanations(out)),
         Reply::Facts => with_write_fault(write_known(out)),

@@ -9,7 +9,7 @@ ghost use Rattle.pam_released.specs.Readings.{failing_view, numbered_view, readi
 ghost use Rattle.pam_report.specs.ReplyViews.{released_view};
 ghost use Rattle.pam_render.specs.text.Released.{body_text, count_text, include_text, kind_front, kind_text, module_words, reading_text, release_front, release_text};
 ghost use Rattle.pam_render.specs.text.WordText.{shown_word_text};
-ghost use Rattle.pam_render.specs.text.Released.{failing_text, released_text, rule_line, rule_lines, rule_text, service_text, shown_words};
+ghost use Rattle.pam_render.specs.text.Released.{failing_text, released_text, released_texts, rule_line, rule_lines, rule_text, service_text, shown_words};
 
 use crate::text::header::put_lowercase;
 use crate::text::word::put_shown_word;
@@ -44,7 +44,7 @@ fn put_count<W: Write>(rules: &Option<Vec<NumberedReading>>, out: &mut Out<W>) -
     }
 }
 
-/// Writes the first line of the answer, up to the number of the rules.
+/// Writes the first line of a kind, up to the number of the rules.
 #[tactic(auto, unfolding(crate::specs::text::Released::release_front))]
 fn put_release_front<W: Write>(reply: &ReleasedReply<'_>, out: &mut Out<W>) -> Result<(), Device>
     ensures { Writes W.contents out.old out.new result (release_front reply.now.service.now reply.now.kind reply.now.release) }
@@ -234,14 +234,31 @@ fn put_rules_if_any<W: Write>(reply: &ReleasedReply<'_>, out: &mut Out<W>) -> Re
     }
 }
 
-pub(crate) fn write_released<W: Write>(
-    reply: &ReleasedReply<'_>,
-    out: &mut Out<W>,
-) -> Result<(), Device>
-    ensures { WritesAndFlushes W.contents out.old out.new result (released_text (released_view reply.now)) }
+/// Writes the rules of a kind.
+fn put_released<W: Write>(reply: &ReleasedReply<'_>, out: &mut Out<W>) -> Result<(), Device>
+    ensures { Writes W.contents out.old out.new result (released_text (released_view reply.now)) }
 {
     put_release_front(reply, out)?;
     put_count(&reply.rules, out)?;
-    put_rules_if_any(reply, out)?;
+    put_rules_if_any(reply, out)
+}
+
+/// Writes the rules of each kind.
+fn put_each<W: Write>(replies: &[ReleasedReply<'_>], out: &mut Out<W>) -> Result<(), Device>
+    ensures { Writes W.contents out.old out.new result (released_texts (map released_view replies.now)) }
+{
+    for reply in replies {
+        put_released(reply, out)?;
+    }
+    Ok(())
+}
+
+pub(crate) fn write_released<W: Write>(
+    replies: &[ReleasedReply<'_>],
+    out: &mut Out<W>,
+) -> Result<(), Device>
+    ensures { WritesAndFlushes W.contents out.old out.new result (released_texts (map released_view replies.now)) }
+{
+    put_each(replies, out)?;
     out.finish()
 }

@@ -1,11 +1,13 @@
 -- For private contracts and proofs alone: the reply of `policy`.
-use Rattle.std.specs.Prelude.{◌≡◌, ◌⊎◌, ℕ, Bool, false, true, List, length, map, unwrap_or, Option, Result, Ok, Err}
+use Rattle.std.specs.Prelude.{◌≡◌, ◌⊎◌, ℕ, Bool, false, true, List, map, unwrap_or, Option, Result, Ok, Err}
 use Rattle.std.specs.List.{range_with_len}
 use Rattle.std.specs.Option.{option_map, option_map_or}
 use Rattle.jiff.specs.Types.{DateTime}
 use Rattle.pam_facts.specs.Rows.{Row}
 use Rattle.pam_facts.specs.known.Tables.{TablesText}
 use Rattle.pam_facts.specs.settings.Settings.{setting_view}
+use Rattle.pam_policy.specs.declared.host.error.StacksError.{StacksError}
+use Rattle.pam_policy.specs.declared.host.error.StacksError.TheVariants as errors
 use Rattle.pam_policy.specs.declared.host.stacks.HostStacks.{HostStacks}
 use Rattle.pam_policy.specs.declared.text.error.PolicyError.{PolicyError}
 use Rattle.pam_policy.specs.declared.text.policy.Policy.{Policy}
@@ -14,11 +16,11 @@ use Rattle.pam_policy.specs.host.HostStacks.{AreHostStacks}
 use Rattle.pam_policy.specs.host.Sources.{SourcesText}
 use Rattle.pam_policy.specs.text.Rules.{RuleText, rule_view}
 use Rattle.pam_words.specs.declared.wanted.LevelName.{LevelName}
-use Rattle.pam_report.specs.Fault.{policy_fault}
+use Rattle.pam_report.specs.Fault.{known_fault, policy_fault}
 use Rattle.pam_report.specs.Finds.{Finds}
 use Rattle.pam_report.specs.Inputs.{no_files, policies_given}
 use Rattle.pam_report.specs.Memory.{Wants, of_paths, paths_tables}
-use Rattle.pam_report.specs.Policy.{IsKeyed, IsRead, IsTableRefusal, PolicyText, are_keys, name_at, policies_of, visitor_of}
+use Rattle.pam_report.specs.Policy.{IsKeyed, IsRead, IsTableRefusal, PolicyText, are_keys, name_at, policies_of, sources_by, visitor_of}
 use Rattle.pam_report.specs.PolicyLevels.{policy_level}
 use Rattle.pam_report.specs.Reply.{counts}
 use Rattle.pam_report.specs.declared.fault.Fault.{Fault}
@@ -79,12 +81,12 @@ asked_wants asked timed = of_paths (paths_tables timed asked.inputs.now)
 
 -- what the stacks are found from, with these tables
 abbrev pub sources_with : PolicyRequest → TablesText → SourcesText
-sources_with asked tables = record {
-  folder = asked.files.now;
-  visitor = visitor_of asked.login;
-  tables = tables;
-  settings = map setting_view asked.settings.now;
-}
+sources_with asked tables = sources_by asked.files.now (visitor_of asked.login) (map setting_view asked.settings.now) tables
+
+-- the fault for which they are not found
+abbrev pub fault_of_stacks : StacksError → Fault
+fault_of_stacks (errors.Known error) = known_fault error
+fault_of_stacks errors.Memory = faults.Memory
 
 -- the stacks of a host, or the fault of a table, or a failed allocation
 abbrev pub FindsStacks : SourcesText → Result HostStacks Fault → Type 0

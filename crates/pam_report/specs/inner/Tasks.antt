@@ -1,6 +1,6 @@
 -- For private contracts and proofs alone: what a request is about.
 use Rattle.pam_words.specs.declared.wanted.Task.{Task}
-use Rattle.pam_words.specs.declared.wanted.Task.TheVariants.{Access, Decide, Graph, Outcomes, Paths, Show, Time}
+use Rattle.pam_words.specs.declared.wanted.Task.TheVariants.{Access, Decide, Graph, Needs, Outcomes, Paths, Show, Time}
 
 -- the runs of a stack
 abbrev pub IsAboutRuns : Task → Type 0
@@ -15,4 +15,5 @@ IsAboutService (Show source kind release) = Unit {0}
 IsAboutService (Decide source kind codes) = Unit {0}
 IsAboutService (Access table groups login arguments) = Unit {0}
 IsAboutService (Time table login moment) = Unit {0}
+IsAboutService (Needs source kind knowledge) = Unit {0}
 IsAboutService task = IsAboutRuns task

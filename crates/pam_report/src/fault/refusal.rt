@@ -223,7 +223,7 @@ fn unknown_line(
             services,
             ..
         } => missing_among(alloc, files, *source, services),
-        Task::Outcomes { source, .. } | Task::Graph { source, .. } => {
+        Task::Outcomes { source, .. } | Task::Graph { source, .. } | Task::Needs { source, .. } => {
             missing_line(alloc, files, *source, request.service.as_bytes())
         }
         Task::Compare {

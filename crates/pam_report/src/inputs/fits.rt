@@ -43,6 +43,7 @@ impl Inputs {
             (inputs, Task::Paths { knowledge, .. }) => inputs.fits_knowledge(knowledge),
             (inputs, Task::Outcomes { knowledge, .. }) => inputs.fits_knowledge(knowledge),
             (inputs, Task::Graph { knowledge, .. }) => inputs.fits_knowledge(knowledge),
+            (inputs, Task::Needs { knowledge, .. }) => inputs.fits_knowledge(knowledge),
             (
                 inputs,
                 Task::Policy {

@@ -49,6 +49,21 @@ pub(super) fn push_line(key: &mut Vec<u8>, name: &[u8], line: usize) -> Result<(
     push_pieces(key, &[Piece::Bytes(b":"), Piece::Number(line as u64)])
 }
 
+/// Appends ` SERVICE KIND`.
+fn push_stack(key: &mut Vec<u8>, name: &[u8], kind: Kind) -> Result<(), AllocError>
+    ensures { OnOk result (key.new.items ≡ key.old.items ++ spec.stack_key name.now kind) }
+{
+    push_pieces(
+        key,
+        &[
+            Piece::Bytes(b" "),
+            Piece::Bytes(name),
+            Piece::Bytes(b" "),
+            Piece::Bytes(kind_name(kind).as_bytes()),
+        ],
+    )
+}
+
 /// What gives each of what is found a key, by which a line of an accept file names it.
 pub(super) trait Keys<T> {
     /// The key of what is found.
@@ -96,19 +111,14 @@ impl Names<'_> {
         }
     }
 
-    /// Appends ` SERVICE KIND`.
-    fn push_stack(&self, key: &mut Vec<u8>, stack: (usize, Kind)) -> Result<(), AllocError>
-        ensures { OnOk result (key.new.items ≡ key.old.items ++ spec.stack_key (map (λ s. s.now) self.now.services.items) stack) }
+    /// Returns the name of the service of a stack; where a file is the cause, that of the file, which is a service too.
+    fn stack(&self, file: Option<usize>, service: Option<usize>) -> &[u8]
+        ensures { result.now ≡ spec.stack_name self.now.files.now (map (λ s. s.now) self.now.services.items) file service }
     {
-        push_pieces(
-            key,
-            &[
-                Piece::Bytes(b" "),
-                Piece::Bytes(self.service(stack.0)),
-                Piece::Bytes(b" "),
-                Piece::Bytes(kind_name(stack.1).as_bytes()),
-            ],
-        )
+        match service {
+            Some(service) => self.service(service),
+            None => self.file(file).unwrap_or(b""),
+        }
     }
 
     /// Appends ` FILE:LINE`, or ` FILE` for line 0. The configuration as a whole has neither.
@@ -134,7 +144,10 @@ impl Keys<(Place, Finding)> for Names<'_> {
         let problem = found.1.problem;
         let mut key = Vec::from_slice(alloc, number_in(problem_name(problem).as_bytes()))?;
         match stack_of(problem) {
-            Some(stack) => self.push_stack(&mut key, stack)?,
+            Some((service, kind)) => {
+                let name = self.stack(found.0.file, service);
+                push_stack(&mut key, name, kind)?;
+            }
             None => self.push_file(&mut key, &found.0)?,
         }
         Ok(key)

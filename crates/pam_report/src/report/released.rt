@@ -10,12 +10,13 @@ ghost use Rattle.pam_conf.specs.Tells.{ErrorTells};
 ghost use Rattle.pam_conf.specs.Walk.{same_kind};
 ghost use Rattle.pam_released.specs.Control.{then_some};
 ghost use Rattle.pam_released.specs.Readings.{numbered_rules, numbered_view, reading_view};
-ghost use Rattle.pam_report.specs.Answer.{answer_of};
+ghost use Rattle.pam_report.specs.Answer.{shown_for};
 ghost use Rattle.pam_report.specs.Finds.{Finds};
 ghost use Rattle.pam_report.specs.Memory.{WantsOnly, of_stack};
 ghost use Rattle.pam_report.specs.Released.{chosen, concerns, fault_in, own_file, reading_at, refuses, release_of_name};
 ghost use Rattle.pam_report.specs.Released.{released};
 ghost use Rattle.pam_report.specs.ReplyViews.{released_view};
+ghost use Rattle.pam_report.specs.Show.{for_each};
 ghost use Rattle.pam_text.specs.Gives.{Gives};
 
 use super::login::lowered;
@@ -41,10 +42,10 @@ pub struct ReleasedReply<'a> {
 
 /// What is asked of a release.
 #[derive(Clone, Copy)]
-pub(super) struct ReleaseRequest<'a> {
-    pub service: &'a str,
-    pub kind: Kind,
-    pub release: ReleaseName,
+struct ReleaseRequest<'a> {
+    service: &'a str,
+    kind: Kind,
+    release: ReleaseName,
 }
 
 fn release_of_name(name: ReleaseName) -> Release
@@ -247,17 +248,42 @@ fn read<'a>(
     }
 }
 
-/// Returns the rules of the own file of a service, as a release reads them.
+/// Reads the own file of a service for these kinds, in their order.
+fn read_each<'a>(
+    alloc: Global,
+    service: &'a str,
+    kinds: &[Kind],
+    release: ReleaseName,
+    files: &Files,
+) -> Result<Vec<ReleasedReply<'a>>, ConfError>
+    ensures { Gives ErrorTells (λ readings. map released_view readings.items) result
+        (for_each (λ kind. released service.now kind release files.now) kinds.now) }
+{
+    let mut readings = Vec::new(alloc);
+    for kind in kinds {
+        let asked = ReleaseRequest {
+            service,
+            kind: *kind,
+            release,
+        };
+        readings.push(read(alloc, asked, files)?)?;
+    }
+    Ok(readings)
+}
+
+/// Returns the rules of the own file of a service for these kinds, as a release reads them.
 pub(super) fn read_as<'a>(
     alloc: Global,
-    asked: ReleaseRequest<'a>,
+    service: &'a str,
+    kinds: &[Kind],
+    release: ReleaseName,
     files: &Files,
 ) -> Result<Reply<'a>, Fault>
-    ensures answer { Finds result (λ answer. answer_of (released asked.entry.service.now asked.entry.kind asked.entry.release files.now) ≡ answer) }
+    ensures answer { Finds result (λ answer. shown_for (Some release) service.now kinds.now files.now ≡ answer) }
     ensures wants { WantsOnly (of_stack false) result }
 {
-    match read(alloc, asked, files) {
-        Ok(reply) => Ok(Reply::Released(reply)),
+    match read_each(alloc, service, kinds, release, files) {
+        Ok(readings) => Ok(Reply::Released(readings)),
         Err(error) => Err(Fault::Conf(error)),
     }
 }

@@ -9,6 +9,7 @@ use super::check::CheckReply;
 use super::compare::CompareReply;
 use super::decide::RunReply;
 use super::graph::GraphReply;
+use super::needs::NeedsReply;
 use super::outcomes::OutcomesReply;
 use super::paths::PathsPage;
 use super::policy::PolicyReply;
@@ -31,10 +32,10 @@ pub struct AccessReply<'a> {
 /// The value that answers a request.
 #[derive(Drop)]
 pub enum Reply<'a> {
-    /// Of `show`.
-    Stack(StackReply<'a>),
-    /// Of `show` with `--as`.
-    Released(ReleasedReply<'a>),
+    /// Of `show`: a stack for each kind.
+    Stacks(Vec<StackReply<'a>>),
+    /// Of `show` with `--as`: the rules of each kind.
+    Released(Vec<ReleasedReply<'a>>),
     /// Of `decide`.
     Run(RunReply<'a>),
     /// Of `access`.
@@ -53,6 +54,8 @@ pub enum Reply<'a> {
     Compared(CompareReply<'a>),
     /// Of `policy`.
     Policy(PolicyReply<'a>),
+    /// Of `needs`.
+    Needs(NeedsReply<'a>),
     /// Of `explain` with a number.
     Explained(Explanation),
     /// Of `explain` without one: a list of all explanations.
@@ -77,8 +80,8 @@ impl Reply<'_> {
             Reply::Check(check) => check.status(),
             Reply::Compared(compared) => compared.status(),
             Reply::Policy(policies) => policies.status(),
-            Reply::Stack(_) | Reply::Released(_) | Reply::Paths(_) => Status::Success,
-            Reply::Outcomes(_) | Reply::Graph(_) => Status::Success,
+            Reply::Stacks(_) | Reply::Released(_) | Reply::Paths(_) => Status::Success,
+            Reply::Outcomes(_) | Reply::Graph(_) | Reply::Needs(_) => Status::Success,
             Reply::Explained(_) | Reply::Explanations | Reply::Facts | Reply::Version =>
                 Status::Success,
         }

@@ -3,16 +3,15 @@
 ghost use Rattle.std.specs.Prelude.{◌≡◌, IfOk, option_map};
 ghost use Rattle.clap.specs.Words.{found_of, rows_of};
 ghost use Rattle.pam_words.specs.Request.{compare_task};
-ghost use Rattle.pam_words.specs.Values.{kind_if_named as kind_in, side_in, side_of};
+ghost use Rattle.pam_words.specs.Values.{side_in, side_of};
 ghost use Rattle.pam_words.specs.Wanted.{source_view};
 ghost use Rattle.pam_words.specs.inner.Wanted.{GivesTask, IsCompareGiven};
 
 use crate::reading::knowledge::names;
 use crate::reading::settings::settings;
-use crate::reading::{is_on, text, value};
+use crate::reading::{is_on, kind_if_named, text, value};
 use crate::wanted::{CompareFiles, ConfSource, Task, Usage};
 use clap::ArgMatches;
-use pam_conf::Kind;
 use pam_facts::settings::Setting;
 use std::alloc::{AllocError, Global};
 
@@ -37,19 +36,6 @@ fn side<'a>(matches: &ArgMatches<'a>, id: &str) -> Option<ConfSource<'a>>
         is_on(matches, "root"),
         text(matches, id),
     )
-}
-
-/// Returns the kind, if one is named, or `None` if it is the name of none.
-fn kind_if_named(matches: &ArgMatches<'_>) -> Option<Option<Kind>>
-    ensures { result ≡ kind_in (rows_of (found_of matches.now)) }
-{
-    match value(matches, "kind") {
-        Some(name) => match Kind::from_name(name.as_bytes()) {
-            Some(kind) => Some(Some(kind)),
-            None => None,
-        },
-        None => Some(None),
-    }
 }
 
 /// Reads the names of the folders and files that a comparison reads besides the two configurations.

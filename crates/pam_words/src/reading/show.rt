@@ -6,7 +6,7 @@ ghost use Rattle.pam_words.specs.Request.{show_task};
 ghost use Rattle.pam_words.specs.Values.{release_named as release_of_name, release_of};
 ghost use Rattle.pam_words.specs.inner.Wanted.{GivesTask};
 
-use crate::reading::{output, stack, value};
+use crate::reading::{kind_if_named, output, source, value};
 use crate::wanted::{OutputForm, ReleaseName, Task, Usage};
 use clap::ArgMatches;
 
@@ -38,7 +38,12 @@ fn release(matches: &ArgMatches<'_>) -> Option<Option<ReleaseName>>
 pub(crate) fn show<'a>(matches: &ArgMatches<'a>) -> Result<Task<'a>, Usage>
     ensures { GivesTask (show_task (rows_of (found_of matches.now))) result }
 {
-    let (source, kind) = stack(matches)?;
+    let Some(source) = source(matches) else {
+        return Err(Usage::Source);
+    };
+    let Some(kind) = kind_if_named(matches) else {
+        return Err(Usage::KindName);
+    };
     let Some(release) = release(matches) else {
         return Err(Usage::ReleaseForm);
     };

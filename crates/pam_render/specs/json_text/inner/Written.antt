@@ -9,9 +9,11 @@ use Rattle.pam_render.specs.parts.Ways.{count_text}
 use Rattle.pam_paths.specs.Steps.{step_seen}
 use Rattle.pam_render.specs.sentences.Sentences.{unused_sentence}
 use Rattle.serde_json.specs.Data.{Data, string}
-use Rattle.pam_report.specs.ReplyViews.{side_files}
+use Rattle.pam_policy.specs.needs.Suggestions.{suggestion_view}
+use Rattle.pam_report.specs.ReplyViews.{needs_view, side_files}
 use Rattle.pam_render.specs.json_text.Check.{answers_array, services_array, types_array}
 use Rattle.pam_render.specs.json_text.Compare.{arguments_array, fault_if_any, new_modules, old_modules, steps_array as asked_array}
+use Rattle.pam_render.specs.json_text.Needs.{events_array, rule_string}
 use Rattle.pam_render.specs.json_text.Paths.{next_or_null}
 use Rattle.pam_render.specs.json_text.Policy.{sentence_string, stacks_array, steps_array as policy_steps}
 use Rattle.pam_render.specs.json_text.Sentences.{said_parts, table_parts}
@@ -20,6 +22,8 @@ use Rattle.pam_render.specs.declared.json_text.check.values.FindingValue.{Findin
 use Rattle.pam_render.specs.declared.json_text.check.values.FindingValue.TheVariants.{Answers, Said, Services, TableSaid, Types, Unused}
 use Rattle.pam_render.specs.declared.json_text.compare.values.ChangeValue.{ChangeValue}
 use Rattle.pam_render.specs.declared.json_text.compare.values.ChangeValue.TheVariants.{Arguments as ModuleArguments, Fault, NewModules, OldModules, Steps as AskedSteps}
+use Rattle.pam_render.specs.declared.json_text.needs.NeedsValue.{NeedsValue}
+use Rattle.pam_render.specs.declared.json_text.needs.NeedsValue.TheVariants.{Events, Rule}
 use Rattle.pam_render.specs.declared.json_text.policy.values.PolicyValue.{PolicyValue}
 use Rattle.pam_render.specs.declared.json_text.policy.values.PolicyValue.TheVariants.{Sentence, Stacks, Steps as PolicySteps}
 use Rattle.pam_render.specs.declared.json_text.show.ModuleValue.{ModuleValue}
@@ -50,9 +54,13 @@ finding_value (TableSaid problem) = joined (table_parts problem)
 finding_value Unused = string unused_sentence
 finding_value (Types met) = types_array met
 finding_value (Services services met) = services_array (map (λ service. service.now) services.now) met
-finding_value (Answers ways problem) = answers_array ways.now problem
+finding_value (Answers ways met problem) = answers_array ways.now met problem
 
 abbrev pub policy_value : PolicyValue → Data
 policy_value (Sentence host told) = sentence_string (host_view host.now) (told_view told.now)
 policy_value (Stacks host places) = stacks_array (host_view host.now) places.now
 policy_value (PolicySteps host finding) = policy_steps (host_view host.now) (finding_view finding)
+
+abbrev pub needs_value : NeedsValue → Data
+needs_value (Rule reply rule) = rule_string (needs_view reply.now) (suggestion_view rule.now)
+needs_value (Events stack events) = events_array stack.now events.now

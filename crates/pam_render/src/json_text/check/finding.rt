@@ -6,7 +6,8 @@ ghost use Rattle.pam_codes.specs.Out.{Writes};
 ghost use Rattle.pam_render.specs.parts.Check.{text_at};
 ghost use Rattle.pam_render.specs.parts.CheckNames.{names_view, word_of};
 ghost use Rattle.pam_report.specs.TablePaths.{table_paths_view};
-ghost use Rattle.pam_render.specs.json_text.Check.{finding_json, line_if_any, met_unless, other_json, service_count, services_array, table_json, unused_json};
+ghost use Rattle.pam_render.specs.json_text.Check.{finding_json, line_if_any, met_unless, other_json, service_count, service_of};
+ghost use Rattle.pam_render.specs.json_text.Check.{services_array, table_json, unused_json};
 ghost use Rattle.pam_render.specs.json_text.Header.{kind_name};
 ghost use Rattle.pam_render.specs.json_text.inner.Written.{finding_value};
 
@@ -17,7 +18,7 @@ use crate::parts::{FoundProblem, Names, path_of, text_at};
 use crate::sentences::level_name;
 use pam_codes::{Device, Out};
 use pam_conf::Kind;
-use pam_findings::host::{Level, Met};
+use pam_findings::host::{Level, Met, Problem};
 use pam_findings::tables::TableFinding;
 use pam_report::{
     TablePaths, kind_name, problem_name, stack_of, table_problem_level, table_problem_name,
@@ -31,11 +32,11 @@ fn line_if_any(line: usize) -> Option<u64>
     if line == 0 { None } else { Some(line as u64) }
 }
 
-/// Returns the stacks that meet a problem, unless it is one of a whole stack.
-fn met_unless(met: Option<Met>, stack: Option<(usize, Kind)>) -> Option<Met>
-    ensures { result ≡ met_unless met stack }
+/// Returns the stacks that meet a problem, unless it names its service.
+fn met_unless(met: Option<Met>, service: Option<usize>) -> Option<Met>
+    ensures { result ≡ met_unless met service }
 {
-    match stack {
+    match service {
         Some(_) => None,
         None => met,
     }
@@ -50,12 +51,22 @@ fn service_count(met: Option<Met>) -> u64
     }
 }
 
-/// Returns the name of the service of a stack.
-fn service_of<'x>(names: &Names<'x>, stack: Option<(usize, Kind)>) -> Option<&'x [u8]>
-    ensures { option_map (λ s. s.now) result ≡ option_map (λ s. text_at (names_view names.now).services s.0) stack }
+/// Returns the service that a problem of a whole stack names.
+fn service_of(problem: Problem) -> Option<usize>
+    ensures { result ≡ service_of problem }
 {
-    match stack {
-        Some((service, _)) => Some(text_at(&names.services, service)),
+    match stack_of(problem) {
+        Some((service, _)) => service,
+        None => None,
+    }
+}
+
+/// Returns the name of a service.
+fn name_of_service<'x>(names: &Names<'x>, service: Option<usize>) -> Option<&'x [u8]>
+    ensures { option_map (λ s. s.now) result ≡ option_map (text_at (names_view names.now).services) service }
+{
+    match service {
+        Some(service) => Some(text_at(&names.services, service)),
         None => None,
     }
 }
@@ -71,7 +82,7 @@ fn services_of<'x>(names: &'x Names<'x>, met: Option<Met>) -> FindingValue<'x>
 }
 
 /// Returns the name of the kind of a stack.
-fn type_of(stack: Option<(usize, Kind)>) -> Option<&'static [u8]>
+fn type_of(stack: Option<(Option<usize>, Kind)>) -> Option<&'static [u8]>
     ensures { option_map (λ s. s.now) result ≡ option_map kind_name (option_map (λ s. s.1) stack) }
 {
     match stack {
@@ -92,8 +103,8 @@ pub(super) fn put_finding<W: Write>(found: FoundProblem<'_>, out: &mut Out<W>) -
     let finding = entry.1;
     let problem = finding.problem;
     let name = problem_name(problem);
-    let stack = stack_of(problem);
-    let met = met_unless(finding.met, stack);
+    let service = service_of(problem);
+    let met = met_unless(finding.met, service);
     let said = FindingValue::Said {
         line: place.line,
         problem,
@@ -101,6 +112,7 @@ pub(super) fn put_finding<W: Write>(found: FoundProblem<'_>, out: &mut Out<W>) -
     };
     let answers = FindingValue::Answers {
         ways: names.ways_in,
+        met: finding.met,
         problem,
     };
     put_line(
@@ -112,8 +124,8 @@ pub(super) fn put_finding<W: Write>(found: FoundProblem<'_>, out: &mut Out<W>) -
             Member::text("number", number_in(name).as_bytes()),
             Member::text("name", name_in(name).as_bytes()),
             Member::written("sentence", said),
-            Member::readable_if_any("service", service_of(names, stack)),
-            Member::readable_if_any("type", type_of(stack)),
+            Member::readable_if_any("service", name_of_service(names, service)),
+            Member::readable_if_any("type", type_of(stack_of(problem))),
             Member::written("types", FindingValue::Types(met)),
             Member::written("services", services_of(names, met)),
             Member::number("service_count", service_count(met)),

@@ -120,7 +120,7 @@ fn put_table_difference<W: Write>(
 }
 
 /// Returns the kind with which what is said of a whole stack begins, empty for another problem.
-fn subject_name(stack: Option<(usize, Kind)>) -> &'static str
+fn subject_name(stack: Option<(Option<usize>, Kind)>) -> &'static str
     ensures { result.now ≡ subject_name stack }
 {
     match stack {

@@ -3,7 +3,8 @@
 ghost use Rattle.std.specs.Prelude.{◌≡◌, map, None, slice_index_or};
 ghost use Rattle.pam_codes.specs.Out.{Writes};
 ghost use Rattle.serde_json.specs.Written.{compact_text};
-ghost use Rattle.pam_render.specs.json_text.Check.{answer_object, answers_array, kinds_of, services_array, type_string, types_array, way_array};
+ghost use Rattle.pam_render.specs.json_text.Check.{answer_object, answers_array, first_way_array, kinds_of, services_array, type_string};
+ghost use Rattle.pam_render.specs.json_text.Check.{types_array, way_array};
 
 use super::sentence::{put_said, put_table_said};
 use crate::json_lines::{
@@ -157,16 +158,31 @@ fn put_way_at<W: Write>(
     }
 }
 
+/// Writes the first way in of the first service that meets a problem.
+fn put_first_way<W: Write>(
+    ways: &[Option<WayIn>],
+    met: Option<Met>,
+    out: &mut Out<W>,
+) -> Result<(), Device>
+    ensures { Writes W.contents out.old out.new result (compact_text (first_way_array ways.now met)) }
+{
+    match met {
+        Some(met) => put_way_at(ways, met.first, out),
+        None => out.put(b"[]"),
+    }
+}
+
 /// Writes the first way in of S2, and an empty array for another problem.
 fn put_answers<W: Write>(
     ways: &[Option<WayIn>],
+    met: Option<Met>,
     problem: Problem,
     out: &mut Out<W>,
 ) -> Result<(), Device>
-    ensures { Writes W.contents out.old out.new result (compact_text (answers_array ways.now problem)) }
+    ensures { Writes W.contents out.old out.new result (compact_text (answers_array ways.now met problem)) }
 {
     match problem {
-        Problem::LetsAnybodyIn { service, .. } => put_way_at(ways, service, out),
+        Problem::LetsAnybodyIn { .. } => put_first_way(ways, met, out),
         _ => out.put(b"[]"),
     }
 }
@@ -194,6 +210,7 @@ pub(super) enum FindingValue<'x> {
     /// The first way in of S2.
     Answers {
         ways: &'x [Option<WayIn>],
+        met: Option<Met>,
         problem: Problem,
     },
 }
@@ -214,7 +231,7 @@ impl Written for FindingValue<'_> {
             FindingValue::Unused => put_quoted(UNUSED, out),
             FindingValue::Types(met) => put_types(*met, out),
             FindingValue::Services { services, met } => put_services(*services, *met, out),
-            FindingValue::Answers { ways, problem } => put_answers(*ways, *problem, out),
+            FindingValue::Answers { ways, met, problem } => put_answers(*ways, *met, *problem, out),
         }
     }
 }

@@ -1,13 +1,15 @@
 //! A line for a finding.
 
+ghost use Rattle.std.specs.Prelude.{◌≡◌};
 ghost use Rattle.std.specs.List.{flat_map};
 ghost use Rattle.pam_codes.specs.Out.{Writes};
-ghost use Rattle.pam_render.specs.text.Check.{answer_text, answers_text, finding_line, kind_of_service, next_answer, number_text};
-ghost use Rattle.pam_render.specs.text.Check.{met_unless, of_service, place_text, rest_text, sentence, subject_text};
-ghost use Rattle.pam_render.specs.text.Check.{way_in_at, way_text};
+ghost use Rattle.pam_render.specs.text.Check.{answer_text, answers_text, finding_line, first_way_in, is_its_own, kind_of_service};
+ghost use Rattle.pam_render.specs.text.Check.{met_of_cause, met_unless, met_unless_named, next_answer, number_text, of_service, place_text};
+ghost use Rattle.pam_render.specs.text.Check.{rest_text, sentence, subject_text};
+ghost use Rattle.pam_render.specs.text.Check.{way_and_met, way_in_at, way_text};
 ghost use Rattle.pam_render.specs.parts.CheckNames.{names_view, word_of};
 
-use super::met::put_met_if_any;
+use super::met::{put_met, put_met_if_any};
 use crate::parts::{FoundProblem, Names, path_of, text_at};
 use crate::sentences::{level_name, put_name, put_said};
 use pam_codes::{Device, Out, Piece};
@@ -42,11 +44,14 @@ fn put_place<W: Write>(names: &Names<'_>, place: &Place, out: &mut Out<W>) -> Re
 /// Writes ` of SERVICE` in pam.conf.
 fn put_of_service<W: Write>(
     names: &Names<'_>,
-    service: usize,
+    service: Option<usize>,
     out: &mut Out<W>,
 ) -> Result<(), Device>
     ensures { Writes W.contents out.old out.new result (of_service names.now.form (names_view names.now).services service) }
 {
+    let Some(service) = service else {
+        return Ok(());
+    };
     match names.form {
         Form::Dir => Ok(()),
         Form::Single => {
@@ -60,7 +65,7 @@ fn put_of_service<W: Write>(
 fn put_kind<W: Write>(
     names: &Names<'_>,
     kind: Kind,
-    service: usize,
+    service: Option<usize>,
     out: &mut Out<W>,
 ) -> Result<(), Device>
     ensures { Writes W.contents out.old out.new result (kind_of_service (names_view names.now) kind service) }
@@ -136,7 +141,7 @@ fn put_way_in<W: Write>(names: &Names<'_>, service: usize, out: &mut Out<W>) -> 
 /// Writes the kind and the service of a problem of a whole stack.
 fn put_subject<W: Write>(
     names: &Names<'_>,
-    stack: Option<(usize, Kind)>,
+    stack: Option<(Option<usize>, Kind)>,
     out: &mut Out<W>,
 ) -> Result<(), Device>
     ensures { Writes W.contents out.old out.new result (subject_text (names_view names.now) stack) }
@@ -147,28 +152,102 @@ fn put_subject<W: Write>(
     }
 }
 
-/// Writes the stacks that meet a problem, unless it is one of a whole stack.
-fn put_met_unless<W: Write>(
+/// Writes the first way in of the first service that meets a problem.
+fn put_first_way<W: Write>(
     names: &Names<'_>,
     met: Option<Met>,
-    stack: Option<(usize, Kind)>,
     out: &mut Out<W>,
 ) -> Result<(), Device>
-    ensures { Writes W.contents out.old out.new result (met_unless (names_view names.now).services met stack) }
+    ensures { Writes W.contents out.old out.new result (first_way_in names.now.ways_in.now met) }
+{
+    match met {
+        Some(met) => put_way_in(names, met.first, out),
+        None => Ok(()),
+    }
+}
+
+/// Whether one service alone meets a problem, and the name of the file is its name.
+fn is_its_own(names: &Names<'_>, file: Option<usize>, met: Met) -> bool
+    ensures { result ≡ is_its_own (names_view names.now) file met }
+{
+    met.services == 1 && name_of_path(path_of(names, file)) == text_at(&names.services, met.first)
+}
+
+/// Writes the stacks that meet a problem of which a file is the cause, unless the file says so.
+fn put_met_of_cause<W: Write>(
+    names: &Names<'_>,
+    file: Option<usize>,
+    met: Option<Met>,
+    out: &mut Out<W>,
+) -> Result<(), Device>
+    ensures { Writes W.contents out.old out.new result (met_of_cause (names_view names.now) file met) }
+{
+    match met {
+        Some(met) if !is_its_own(names, file, met) => put_met(&names.services, met, out),
+        _ => Ok(()),
+    }
+}
+
+/// The same, unless the problem names its service.
+fn put_met_unless_named<W: Write>(
+    names: &Names<'_>,
+    file: Option<usize>,
+    met: Option<Met>,
+    service: Option<usize>,
+    out: &mut Out<W>,
+) -> Result<(), Device>
+    ensures { Writes W.contents out.old out.new result (met_unless_named (names_view names.now) file met service) }
+{
+    match service {
+        Some(_) => Ok(()),
+        None => put_met_of_cause(names, file, met, out),
+    }
+}
+
+/// Writes the first way in, and the stacks that meet S2.
+fn put_way_and_met<W: Write>(
+    names: &Names<'_>,
+    file: Option<usize>,
+    met: Option<Met>,
+    service: Option<usize>,
+    out: &mut Out<W>,
+) -> Result<(), Device>
+    ensures { Writes W.contents out.old out.new result (way_and_met (names_view names.now) file met service) }
+{
+    put_first_way(names, met, out)?;
+    put_met_unless_named(names, file, met, service, out)
+}
+
+/// Writes the stacks that meet a problem of a line, or of a whole stack.
+fn put_met_unless<W: Write>(
+    names: &Names<'_>,
+    file: Option<usize>,
+    met: Option<Met>,
+    stack: Option<(Option<usize>, Kind)>,
+    out: &mut Out<W>,
+) -> Result<(), Device>
+    ensures { Writes W.contents out.old out.new result (met_unless (names_view names.now) file met stack) }
 {
     match stack {
-        Some(_) => Ok(()),
+        Some((service, _)) => put_met_unless_named(names, file, met, service, out),
         None => put_met_if_any(&names.services, met, out),
     }
 }
 
-/// Writes the first way in, or the stacks that meet the problem.
-fn put_rest<W: Write>(names: &Names<'_>, finding: Finding, out: &mut Out<W>) -> Result<(), Device>
-    ensures { Writes W.contents out.old out.new result (rest_text (names_view names.now) finding.met finding.problem) }
+/// Writes the first way in, and the stacks that meet the problem.
+fn put_rest<W: Write>(
+    names: &Names<'_>,
+    file: Option<usize>,
+    finding: Finding,
+    out: &mut Out<W>,
+) -> Result<(), Device>
+    ensures { Writes W.contents out.old out.new result (rest_text (names_view names.now) file finding.met finding.problem) }
 {
     match finding.problem {
-        Problem::LetsAnybodyIn { service, .. } => put_way_in(names, service, out),
-        _ => put_met_unless(names, finding.met, stack_of(finding.problem), out),
+        Problem::LetsAnybodyIn { service, .. } => {
+            put_way_and_met(names, file, finding.met, service, out)
+        }
+        _ => put_met_unless(names, file, finding.met, stack_of(finding.problem), out),
     }
 }
 
@@ -176,17 +255,17 @@ fn put_rest<W: Write>(names: &Names<'_>, finding: Finding, out: &mut Out<W>) -> 
 #[tactic(auto, unfolding(crate::specs::text::Check::sentence))]
 fn put_sentence<W: Write>(
     names: &Names<'_>,
-    line: usize,
+    place: &Place,
     finding: Finding,
     word: Option<&Misspelled>,
     out: &mut Out<W>,
 ) -> Result<(), Device>
     ensures { Writes W.contents out.old out.new result
-        (sentence (names_view names.now) line finding.met finding.problem (word_of word.entry)) }
+        (sentence (names_view names.now) place.now finding.met finding.problem (word_of word.entry)) }
 {
     put_subject(names, stack_of(finding.problem), out)?;
-    put_said(line, finding.problem, word, out)?;
-    put_rest(names, finding, out)
+    put_said(place.line, finding.problem, word, out)?;
+    put_rest(names, place.file, finding, out)
 }
 
 /// Writes `PLACE: LEVEL: NUMBER NAME: SENTENCE`.
@@ -205,6 +284,6 @@ pub(super) fn put_finding<W: Write>(found: FoundProblem<'_>, out: &mut Out<W>) -
         Piece::Bytes(problem_name(finding.problem).as_bytes()),
         Piece::Bytes(b": "),
     ])?;
-    put_sentence(names, place.line, finding, word, out)?;
+    put_sentence(names, place, finding, word, out)?;
     out.put(b"\n")
 }

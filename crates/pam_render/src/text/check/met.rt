@@ -74,7 +74,11 @@ fn put_others_if_any<W: Write>(services: &[&[u8]], met: Met, out: &mut Out<W>) -
 
 /// Writes ` (KINDS; SERVICES)`.
 #[tactic(auto, unfolding(crate::specs::text::Check::met_text))]
-fn put_met<W: Write>(services: &[&[u8]], met: Met, out: &mut Out<W>) -> Result<(), Device>
+pub(super) fn put_met<W: Write>(
+    services: &[&[u8]],
+    met: Met,
+    out: &mut Out<W>,
+) -> Result<(), Device>
     ensures { Writes W.contents out.old out.new result (met_text (map (λ s. s.now) services.now) met) }
 {
     out.put(b" (")?;

@@ -1,48 +1,31 @@
 //! The stacks of the host of which policies are asked.
 
-ghost use Rattle.std.specs.Prelude.{◌≡◌, IfErr, None, is_some, option_map};
+ghost use Rattle.std.specs.Prelude.{IfErr, None, is_some, option_map};
 ghost use Rattle.pam_facts.specs.known.Tables.{tables_view, timed_view};
-ghost use Rattle.pam_policy.specs.host.Sources.{visitor_view};
 ghost use Rattle.pam_report.specs.Memory.{IsWanting, of_paths, paths_tables};
-ghost use Rattle.pam_report.specs.Policy.{sources_of, visitor_of};
+ghost use Rattle.pam_report.specs.Policy.{sources_of};
 ghost use Rattle.pam_report.specs.inner.Known.{tables_from, with_time};
 ghost use Rattle.pam_report.specs.inner.Policy.{FindsStacks, policy_text, sources_with};
 
 use super::answering::PolicyRequest;
-use crate::fault::{Fault, known_fault};
+use crate::fault::Fault;
 use crate::inputs::{Given, tables_with, timed_given};
+use crate::report::host_sources::{host_sources, stacks_fault};
 use jiff::civil::DateTime;
 use pam_conf::NameList;
 use pam_facts::Facts;
 use pam_facts::known::{Tables, TimedTable};
-use pam_policy::host::{HostSources, HostStacks, StacksError, Visitor};
+use pam_policy::host::HostStacks;
 use pam_text::Texts;
-use pam_words::Login;
-
-fn visitor<'x>(login: Login<'x>) -> Visitor<'x>
-    ensures { visitor_view result ≡ visitor_of login.entry }
-{
-    Visitor {
-        user: login.user.as_bytes(),
-        rhost: login.rhost.as_bytes(),
-        tty: login.tty.as_bytes(),
-    }
-}
 
 /// Finds the stacks, from these tables.
 fn stacks_with(asked: &PolicyRequest<'_, '_>, tables: &Tables<'_>) -> Result<HostStacks, Fault>
     ensures { FindsStacks (sources_with asked.now (tables_view tables.now)) result }
 {
-    let sources = HostSources {
-        files: asked.files,
-        visitor: visitor(asked.login),
-        tables,
-        settings: asked.settings,
-    };
+    let sources = host_sources(asked.files, asked.login, asked.settings, tables);
     match HostStacks::of(asked.alloc, &sources) {
         Ok(stacks) => Ok(stacks),
-        Err(StacksError::Known(error)) => Err(known_fault(error)),
-        Err(StacksError::Memory) => Err(Fault::Memory),
+        Err(error) => Err(stacks_fault(error)),
     }
 }
 

@@ -1,11 +1,11 @@
 use Rattle.pam_words.specs.Words.{access_app, bare_app, check_app, compare_app, decide_app, explain_app, facts_app, graph_app, outcomes_app, pamcheck_app}
-use Rattle.pam_words.specs.Words.{paths_app, policy_app, show_app, time_app, version_app}
+use Rattle.pam_words.specs.Words.{needs_app, paths_app, policy_app, show_app, time_app, version_app}
 use Rattle.pam_words.proofs.Rows.{in-either, in-table}
 use Rattle.pam_words.proofs.words.row_of.Goals as goal
 
 pub returns : goal.returns
 unfolding pamcheck_app bare_app check_app compare_app policy_app show_app decide_app paths_app outcomes_app graph_app access_app time_app explain_app
-    facts_app version_app
+    facts_app needs_app version_app
 returns c =
     let name = c.args.name.now in
     let hosts = in-table name _ _ c.row_in.ensures in

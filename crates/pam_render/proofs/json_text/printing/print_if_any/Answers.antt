@@ -1,4 +1,4 @@
-use Rattle.std.proofs.Common.{◌≡◌, ℕ, List, Option, Some, Result, refl, subst, sym, true}
+use Rattle.std.proofs.Common.{◌≡◌, ℕ, List, Ok, Option, Some, Result, ap, map, refl, subst, sym, true}
 use Rattle.std.specs.Option.{option_copied}
 use Rattle.pam_codes.specs.Out.{Out}
 use Rattle.pam_render.proofs.PartsProofs.Printed.{printed-as, text-printed}
@@ -6,12 +6,14 @@ use Rattle.pam_render.specs.parts.Findings.{IsCheckBy}
 use Rattle.pam_render.specs.parts.Policy.{IsPolicyBy}
 use Rattle.pam_render.specs.parts.Prints.{PrintsBy}
 use Rattle.pam_report.specs.Reply as spec
-use Rattle.pam_report.specs.ReplyViews.{check_view, compare_view, outcomes_view, policy_view, reply_view, run_view, stack_view}
+use Rattle.pam_report.specs.ReplyViews.{check_view, compare_view, needs_view, outcomes_view, policy_view, reply_view, run_view, stack_view}
 use Rattle.pam_report.specs.declared.fault.Fault.{Fault}
 use Rattle.pam_report.specs.declared.report.replies.Reply as declared
 use Rattle.pam_report.specs.declared.report.replies.Reply.TheVariants as replies
+use Rattle.pam_report.specs.declared.report.show.StackReply.{StackReply}
 use Rattle.pam_render.specs.json_text.Check.{line_json}
 use Rattle.pam_render.specs.json_text.Policy.{line_json as policy_line}
+use Rattle.pam_render.specs.json_text.Show.{stacks_json}
 use Rattle.pam_render.specs.json_text.Text.{IsJson, PrintsIfAny, has_json}
 use Rattle.pam_render.proofs.json_text.printing.print_if_any.Goals as goal
 
@@ -22,10 +24,12 @@ written : {W : Type 0} (contents : W → Option (List ℕ)) (old new : Out W) (r
 written contents old new result one other same has h =
     subst (λ (reply : declared.Reply). PrintsIfAny contents old new (Some result) (reply_view reply)) (sym same) (has, h)
 
-pub returns-in-Stack : goal.returns-in-Stack
-returns-in-Stack g c =
-    written g.W.Write.contents _ _ _ (replies.Stack c.in-Stack.stack) _ c.in-Stack.is refl
-    (text-printed g.W.Write.contents IsJson _ _ (spec.Stack (stack_view c.in-Stack.stack)) _ _ _ refl c.with_write_fault.ensures c.write_stack.ensures)
+pub returns-in-Stacks : goal.returns-in-Stacks
+returns-in-Stacks g c =
+    let stacks = c.in-Stacks.stacks in
+    written g.W.Write.contents _ _ _ (replies.Stacks stacks) _ c.in-Stacks.is refl
+    (text-printed g.W.Write.contents IsJson _ _ (spec.Stacks (map stack_view stacks.items)) _ _ _
+    (ap (λ (those : List StackReply). Ok (stacks_json (map stack_view those))) c.deref.ensures.value) c.with_write_fault.ensures c.write_stacks.ensures)
 
 pub returns-in-Run : goal.returns-in-Run
 returns-in-Run g c =
@@ -69,3 +73,9 @@ returns-in-Policy g c =
     written g.W.Write.contents _ _ _ (replies.Policy c.in-Policy.policies) _ c.in-Policy.is refl
     (printed-as g.W.Write.contents (IsPolicyBy policy_line) IsJson _ _ (spec.Policy (policy_view c.in-Policy.policies)) (λ text h. h) _
     c.write_policy.ensures)
+
+pub returns-in-Needs : goal.returns-in-Needs
+returns-in-Needs g c =
+    written g.W.Write.contents _ _ _ (replies.Needs c.in-Needs.found) _ c.in-Needs.is refl
+    (text-printed g.W.Write.contents IsJson _ _ (spec.Needs (needs_view c.in-Needs.found)) _ _ _ refl c.with_write_fault-in-Needs.ensures
+    c.write_needs.ensures)

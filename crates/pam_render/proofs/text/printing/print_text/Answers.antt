@@ -1,20 +1,24 @@
-use Rattle.std.proofs.Common.{refl}
+use Rattle.std.proofs.Common.{List, Ok, ap, map, refl}
 use Rattle.std.specs.Option.{option_copied}
 use Rattle.pam_render.proofs.PartsProofs.Printed.{printed-as, reply-is, text-printed}
 use Rattle.pam_render.specs.parts.Findings.{IsCheckBy}
 use Rattle.pam_render.specs.parts.Policy.{IsPolicyBy}
 use Rattle.pam_report.specs.Reply as spec
-use Rattle.pam_report.specs.ReplyViews.{check_view, outcomes_view, policy_view, run_view, stack_view}
+use Rattle.pam_report.specs.ReplyViews.{check_view, needs_view, outcomes_view, policy_view, run_view, stack_view}
 use Rattle.pam_report.specs.declared.report.replies.Reply.TheVariants as replies
+use Rattle.pam_report.specs.declared.report.show.StackReply.{StackReply}
 use Rattle.pam_render.specs.text.Check.{line_text}
 use Rattle.pam_render.specs.text.Policy.{line_text as policy_line}
+use Rattle.pam_render.specs.text.Show.{stacks_text}
 use Rattle.pam_render.specs.text.Text.{IsText}
 use Rattle.pam_render.proofs.text.printing.print_text.Goals as goal
 
-pub returns-in-Stack : goal.returns-in-Stack
-returns-in-Stack g c =
-    reply-is g.W.Write.contents IsText _ _ _ (replies.Stack c.in-Stack.stack) _ c.in-Stack.is
-    (text-printed g.W.Write.contents IsText _ _ (spec.Stack (stack_view c.in-Stack.stack)) _ _ _ refl c.with_write_fault.ensures c.write_stack.ensures)
+pub returns-in-Stacks : goal.returns-in-Stacks
+returns-in-Stacks g c =
+    let stacks = c.in-Stacks.stacks in
+    reply-is g.W.Write.contents IsText _ _ _ (replies.Stacks stacks) _ c.in-Stacks.is
+    (text-printed g.W.Write.contents IsText _ _ (spec.Stacks (map stack_view stacks.items)) _ _ _
+    (ap (λ (those : List StackReply). Ok (stacks_text (map stack_view those))) c.deref.ensures.value) c.with_write_fault.ensures c.write_stacks.ensures)
 
 pub returns-in-Run : goal.returns-in-Run
 returns-in-Run g c =
@@ -53,3 +57,9 @@ returns-in-Policy g c =
     reply-is g.W.Write.contents IsText _ _ _ (replies.Policy c.in-Policy.policies) _ c.in-Policy.is
     (printed-as g.W.Write.contents (IsPolicyBy policy_line) IsText _ _ (spec.Policy (policy_view c.in-Policy.policies)) (λ text h. h) _
     c.write_policy.ensures)
+
+pub returns-in-Needs : goal.returns-in-Needs
+returns-in-Needs g c =
+    reply-is g.W.Write.contents IsText _ _ _ (replies.Needs c.in-Needs.found) _ c.in-Needs.is
+    (text-printed g.W.Write.contents IsText _ _ (spec.Needs (needs_view c.in-Needs.found)) _ _ _ refl c.with_write_fault-in-Needs.ensures
+    c.write_needs.ensures)

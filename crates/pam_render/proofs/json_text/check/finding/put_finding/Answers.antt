@@ -27,12 +27,13 @@ pub returns : goal.returns
 unfolding finding_json
 returns g c =
     let services = (names_view c.args.found.names.now).services in
-    let stack = c.stack_of-stack.ensures in
+    let service = c.service_of-service.ensures in
     let name = c.problem_name-name.ensures in
-    let met = c.met_unless-met.ensures ∙ ap (λ (s : Option (ℕ × Kind)). met_unless c.args.found.entry.now.1.met s) stack in
+    let met = c.met_unless-met.ensures ∙ ap (λ (s : Option ℕ). met_unless c.args.found.entry.now.1.met s) service in
     let level = c.as_bytes.ensures.value ∙ c.level_name.ensures ∙ ap (λ (l : Level). level_name l) c.level.ensures in
-    let of-stack = c.service_of.ensures ∙ ap (λ (s : Option (ℕ × Kind)). option_map (λ one. text_at services one.0) s) stack in
-    let type = c.type_of.ensures ∙ ap (λ (s : Option (ℕ × Kind)). option_map kind_name (option_map (λ one. one.1) s)) stack in
+    let of-service = c.name_of_service.ensures ∙ ap (λ (s : Option ℕ). option_map (text_at services) s) service in
+    let type =
+    c.type_of.ensures ∙ ap (λ (s : Option (Option ℕ × Kind)). option_map kind_name (option_map (λ one. one.1) s)) c.stack_of.ensures in
     writes-is _ _ _ _ _ _ c.put_line.ensures
     (ap line
     (then _ _ _ _ c.text.ensures
@@ -46,7 +47,7 @@ returns g c =
     (c.text-4.ensures
     ∙ ap (λ (text : List ℕ). named (codes "name") (string text)) (c.as_bytes-3.ensures.value ∙ c.name_in.ensures ∙ ap (after_first is_space) name))
     (then _ _ _ _ c.written.ensures
-    (then _ _ _ _ (c.readable_if_any.ensures ∙ ap (λ (text : Option (List ℕ)). named (codes "service") (readable_or_null text)) of-stack)
+    (then _ _ _ _ (c.readable_if_any.ensures ∙ ap (λ (text : Option (List ℕ)). named (codes "service") (readable_or_null text)) of-service)
     (then _ _ _ _ (c.readable_if_any-2.ensures ∙ ap (λ (text : Option (List ℕ)). named (codes "type") (readable_or_null text)) type)
     (then _ _ _ _ (c.written-2.ensures ∙ ap (λ (m : Option Met). named (codes "types") (types_array m)) met)
     (then _ _ _ _

@@ -14,7 +14,7 @@ returns-in_err-put_line g c =
     err-front _ c.from_residual-in_err-put_line.ensures.0
     (front-is
     (front-longer (codes "\n")
-    (front-longer (sentence names place.line finding.met finding.problem word) (front-then c.in_ok-put_place.ensures c.in_err-put_line.ensures)))
+    (front-longer (sentence names place finding.met finding.problem word) (front-then c.in_ok-put_place.ensures c.in_err-put_line.ensures)))
     (finding_line-is names place finding word c.as_bytes.result.now c.as_bytes-2.result.now
     (rw (c.as_bytes.ensures.value, c.level_name.ensures, c.level.ensures) refl) (c.as_bytes-2.ensures.value ∙ c.problem_name.ensures)))
 
