@@ -1,0 +1,4 @@
+mod Filled
+mod Firsts
+mod Lists
+mod Names
