@@ -2,16 +2,18 @@
 
 No answer is compared with the plain reading here, so a mistake that both share shows where two commands contradict each other.
 For a service and a kind of each host, `show`, `outcomes`, `paths` with its filters and pages, `decide`, `graph` and `check` are
-compared as text and as JSON, and `compare` is given the host twice."""
+compared as text and as JSON; `show` without a kind is compared with `show` of each, and `compare` is given the host twice."""
 import json
 import pathlib
 import re
 
 from drawn import files, hosts
-from hostile.running import Difference, shown
+from hostile.running import Answer, Difference, shown
 from model.stacks import CODES
 
-KINDS = ["auth", "auth", "account", "password", "session"]
+IN_ORDER = ["auth", "account", "password", "session"]
+# Those that are drawn.
+KINDS = ["auth", *IN_ORDER]
 LIMIT = 40
 ANY = ["--answers", "any"]
 PAGE = 9
@@ -156,7 +158,8 @@ def compare_checks(asked, *words):
 
 
 def has(findings, number, service, kind):
-    return any(f["number"] == number and f["service"] == service and f["type"] == kind for f in findings)
+    """Whether a check of one service finds this of its stack, which it tells at the file that is the cause."""
+    return any(f["number"] == number and service in f["services"] and f["type"] == kind for f in findings)
 
 
 def refuses_arguments(findings, kind):
@@ -201,9 +204,19 @@ def compare_stack(asked, service, kind, findings):
         compare_listings(asked, outcomes, modules)
 
 
+def compare_kinds(asked, service):
+    """`show` of all kinds, and of each."""
+    for form in ([], ["--json"]):
+        each = [asked.run("show", service, kind, "--dir", "d", *form) for kind in IN_ORDER]
+        whole = Answer(b"".join(one.stdout for one in each), b"", 0)
+        first = next((one for one in each if one.status != 0), whole)
+        same("show of all kinds %s" % form, first, asked.run("show", service, "--dir", "d", *form))
+
+
 def compare_host(program, service, kind):
     asked = Asked(program, service, kind)
     compare_checks(asked)
+    compare_kinds(asked, service)
     refused = compare_with_itself(asked)
     got = asked.run("show", *asked.stack)
     findings = compare_checks(asked, service)

@@ -59,12 +59,13 @@ TABLE_DRAWINGS = TABLE_OUTCOMES + [KEPT, E17]
 # the names of the files, among which the right words for wrong ones are; and to print, the lists of the paths and of the services.
 # The three lists ask for room again where it is refused once. With more than four paths, their list grows.
 LISTS = [KEPT, E17] + [KEPT] * 2
-# The two graphs of a stack. If it has no modules, nothing else takes memory between them.
-STACK_GRAPHS = {"+": GRAPH * 2, "-": [KEPT, *GRAPH]}
+# The two graphs of a stack. If it has no modules, nothing else takes memory between them. Where it has S1 or S2, there are two more: those
+# of the stack of its file by itself, which may be the cause.
+STACK_GRAPHS = {"+": GRAPH * 2, "-": [KEPT, *GRAPH], "!": GRAPH * 4}
 
 
 def judged(stacks, before=STACKS):
-    """The phases until stacks are judged, each with modules (`+`) or without (`-`)."""
+    """The phases until stacks are judged, each with modules (`+`), with modules and S1 or S2 (`!`), or without modules (`-`)."""
     return before + [phase for stack in stacks for phase in STACK_GRAPHS[stack]]
 
 
@@ -87,6 +88,7 @@ ASKED = [
     (["decide", "login", "auth", *["success"] * 3, "--dir", "stack"], STACKS),
     (["show", "login", "auth", "--conf", "pam.conf"], STACKS),
     (["show", "login", "auth", "--dir", "big"], STACKS),
+    (["show", "login", "--dir", "d"], STACKS),
     ([*PATHS, "--after", "0.0"], PAGES),
     ([*PATHS, "--before", "12.0", "--limit", "9"], PAGES),
     # No module of this stack needs a table, so none is read.
@@ -113,7 +115,7 @@ ASKED = [
     (["check", "LOGIN", "--dir", "d", "--vendor-dir", "stack"], [*checks("++--", LOOKED_UP), KEPT]),
     (["check", "--conf", "pam.conf", "--fail-on", "note"], checks("+---")),
     (["show", "login", "auth", "--dir", "d", "--with", "login=d/common", "--with=new=d/other"], STACKS),
-    (["check", "--dir", "stack", "--modules", "m", "--facts", "facts", "--accept", "accept"], checks("++--")),
+    (["check", "--dir", "stack", "--modules", "m", "--facts", "facts", "--accept", "accept"], checks("+!--")),
     (["compare", "old", "new"], COMPARES),
     (["compare", "new", "old", "LOGIN", "auth", "--modules", "m", "--facts", "facts", *RETURNS_FILE], NAMED_COMPARES),
     (["compare", "pam.conf", "pam.conf", "--conf"], COMPARES),
@@ -128,7 +130,7 @@ ASKED = [
     (["show", "login", "auth", "--dir", "big", "--as", "linux-pam-1.5"], PAGES),
     (["show", "login", "auth", "--conf", "pam.conf", "--as", "linux-pam-1.7"], PAGES),
     (["version"], WORDS),
-    (["show", "login"], WORDS),
+    (["show"], WORDS),
     (["show", "login", "atuh", "--dir", "d"], [*WORDS, UNSAID]),
     (["time", "login", "--time", "time", "--user", "alice"], [*WORDS, UNSAID]),
     (["graph", "login", "auth", "--dir", "d", "--format", "gif"], [*WORDS, UNSAID]),

@@ -2,9 +2,9 @@
 arguments, folders, candidates and tables.
 
 Each answer is the plain reading's. Besides, no control character of a name comes out of `check`, `compare`, `graph` and `explain`,
-nor out of `policy`, nor out of `outcomes` after its header, U+009B included, which some terminals take as the begin of an escape; so each line is one that
-the program wrote. Nor does a character that cannot be seen, or that turns the direction of the text. The texts of drawings are
-printable ASCII. What `show`, headers and faults say of names is their own bytes."""
+nor out of `policy`, nor out of `outcomes` and `needs` after their headers, U+009B included, which some terminals take as the begin of an
+escape; so each line is one that the program wrote. Nor does a character that cannot be seen, or that turns the direction of the text.
+The texts of drawings are printable ASCII. What `show`, headers and faults say of names is their own bytes."""
 import re
 
 from hostile import compared
@@ -62,10 +62,10 @@ def of_tree(program, service, folder):
         harmless(words, tree, answered(program, words, tree), CONTROL, CHECKED)
     for words in (["policy", "p", "--dir=d"], ["policy", "--dir=d", "p", "--set=a.so=success,auth_err"]):
         harmless(words, tree, answered(program, words, tree), CONTROL, JUDGED)
-    stacks = [] if service.startswith("-") else [["show", *stack], ["outcomes", *stack]]
+    stacks = [] if service.startswith("-") else [["show", *stack], ["outcomes", *stack], ["needs", *stack]]
     for words in stacks:
         got = answered(program, words, tree)
-        if words[0] == "outcomes":
+        if words[0] != "show":
             harmless(words, tree, got._replace(stdout=got.stdout.partition(b" modules\n")[2]), CONTROL)
     drawings = [["graph", *stack, "--format", name] for name in ("dot", "mermaid", "svg")] if stacks else []
     for words in drawings:

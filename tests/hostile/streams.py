@@ -25,7 +25,7 @@ CHECK = ["check", "--dir", "d", "--fail-on", "note"]
 COMPARE = ["compare", "d", "d"]
 ANSWERED = [SHOW, ["decide", "login", "auth", *["success"] * 12, "--dir", "d"], LONG, OUTCOMES, GRAPH, ACCESS, TIME, CHECK, COMPARE,
             ["version"]]
-REFUSED = [["show", "ftp", "auth", "--dir", "d"], ["show", "login", "auth"], ["show", "login"], [*LONG, "--after", "x"],
+REFUSED = [["show", "ftp", "auth", "--dir", "d"], ["show", "login", "auth"], ["show"], [*LONG, "--after", "x"],
            ["show", "login", "auth", "--dir", "gone"], ["check", "--dir", "gone"], ["compare", "d", "gone"], ["compare", "d", "--conf"]]
 V2 = b"pamcheck: V2 Write\n"
 PIPE = 4096

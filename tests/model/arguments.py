@@ -1,4 +1,4 @@
-"""The arguments of modules, read plainly from `docs/SPECIFICATION.md`: S15 to S19, and S23.
+"""The arguments of modules, read plainly from `docs/SPECIFICATION.md`: S15 to S20, and S23.
 
 What modules know is the table of the program, `crates/pam_arguments/src/table.rt`, which is data and no code."""
 import re
@@ -16,10 +16,13 @@ SAID = {"S15": (b" knows no argument ", b"", b"mend it, or remove it"),
         "S16": (b" takes ", b" for an argument that it begins with", b"write that argument"),
         "S17": (b" does not read ", b" in this kind", b"remove it"),
         "S18": (b" cannot use the value of ", b"", b"write one that its manual page names"),
+        "S20": (b" takes by ", b" only a password that a module before it asked for, and no run asks for one, so it fails",
+                b"remove the argument, or ask for the password before it"),
         "S23": (b" stores passwords by a weak hash with ", b"", b"write yescrypt in its place")}
 # Where the argument is not told.
 UNTOLD = b"an argument is not one that the module takes; mend it, or remove it"
-NAMES = {"S15": "UnknownArgument", "S16": "LongerWord", "S17": "ArgumentOfOtherKind", "S18": "BadValue", "S19": "BadArguments", "S23": "WeakHash"}
+NAMES = {"S15": "UnknownArgument", "S16": "LongerWord", "S17": "ArgumentOfOtherKind", "S18": "BadValue", "S19": "BadArguments",
+         "S20": "NoToken", "S23": "WeakHash"}
 # What the arguments of a rule lack as a whole.
 LACKS = [b"pam_exec.so has no program to run, so it always fails; name one after its options",
          b"pam_listfile.so lacks one of item=, sense= and file=, so it always answers as onerr= says; write all three",
@@ -31,6 +34,18 @@ CONDITION = (rb"(user|login|name|uid|gid|shell|home|dir|homedir|ruser|rhost|tty|
              rb"(<=?|>=?|l[te]|g[te]|eq|ne|!?=|[=!]~|(no)?glob|(not)?(in|ingroup|innetgr))\0[^\0]*\0")
 KINDS = [b"auth", b"account", b"password", b"session"]
 REACTIONS = [b"ignores", b"logs", b"fails"]
+# Words by which a module takes only a password that a module before it asked for, by kind, each with the modules that have it.
+TAKERS = {b"auth": {b"use_first_pass": b"""pam_unix pam_ldap pam_sss pam_winbind pam_userdb pam_radius_auth pam_pwdfile
+                        pam_google_authenticator pam_oath pam_yubico pam_mysql pam_ccreds pam_pkcs11""".split(),
+                    b"force_first_pass": [b"pam_krb5"]},
+          b"password": {b"use_authtok": b"""pam_unix pam_ldap pam_sss pam_winbind pam_krb5 pam_pwhistory pam_pwquality pam_passwdqc
+                            pam_cracklib""".split(),
+                        b"use_first_pass": [b"pam_unix"]}}
+# Modules that ask for no password which others can take.
+NEVER_ASKERS = set(b"""pam_deny pam_permit pam_env pam_access pam_nologin pam_faildelay pam_faillock pam_group pam_issue pam_keyinit pam_limits
+    pam_succeed_if pam_rootok pam_wheel pam_listfile pam_localuser pam_securetty pam_shells pam_usertype pam_warn pam_debug pam_echo
+    pam_selinux pam_sepermit pam_mail pam_motd pam_lastlog pam_rhosts pam_timestamp pam_time pam_canonicalize_user pam_tmpdir pam_cap
+    pam_systemd pam_u2f pam_fprintd pam_duo pam_ssh_agent_auth""".split())
 
 
 @lru_cache(None)
@@ -115,6 +130,16 @@ def lack(name, kind, words):
         conditions = b"".join(word + b"\0" for word in words if word not in FLAGS)
         return None if re.fullmatch(b"(?is)(%s)*" % CONDITION, conditions) else 4
     return None
+
+
+def takes(name, kind, word):
+    """Whether a module has a word by which it takes only a password that a module before it asked for."""
+    return name in TAKERS.get(kind, {}).get(word, [])
+
+
+def may_ask(name, kind, words):
+    """Whether a module may ask for a password that modules after it can take."""
+    return name not in NEVER_ASKERS and not any(takes(name, kind, word) for word in words)
 
 
 def always_fails(name, kind, words):

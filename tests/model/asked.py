@@ -1,4 +1,4 @@
-"""Which modules some answers ask, which of these can jump past the end of their list, and of which a success counts, read
+"""Which modules some answers ask, and after which, which of these can jump past the end of their list, and of which a success counts, read
 plainly from `docs/SPECIFICATION.md`: by trying every answer at every place at which a run can be."""
 
 from model import outcomes, stacks
@@ -27,6 +27,24 @@ def asked(items, allowed):
 def asked_with(code, items, allowed):
     """The numbers of the modules that some answers ask and that may answer a code."""
     return {number for number in asked(items, allowed) if code in allowed[number - 1]}
+
+
+def asked_after(first, codes, items, allowed):
+    """The numbers of the modules that some answers ask after a module with one of the first numbers, which gives one of the codes."""
+    seen, found = set(), set()
+    waiting = [([(items, stacks.START)], stacks.START, False)]
+    while waiting:
+        lists, state, is_after = waiting.pop()
+        module, lists = stacks.next_module(lists, state)
+        place = module and (stacks.place(module, lists, state), is_after)
+        if module is None or place in seen:
+            continue
+        seen.add(place)
+        if is_after:
+            found.add(module.number)
+        waiting += [(*stacks.answered(module, lists, state, code), is_after or module.number in first and code in codes)
+                    for code in allowed[module.number - 1]]
+    return found
 
 
 def counting(items, allowed):

@@ -86,7 +86,7 @@ def finding(path, line_number, level, name, sentence, stack=None, met=(), answer
     """A finding: where, how grave, what is wrong, and which stacks meet it."""
     number, name = text(name).split(" ")
     services = list(dict.fromkeys(text(service) for service, _ in met))
-    service, kind = map(text, stack) if stack else (None, None)
+    service, kind = [word if word is None else text(word) for word in stack or (None, None)]
     return line("finding", file=text(path), line=line_number or None, level=text(host.LEVELS[level]), number=number, name=name,
                 sentence=text(sentence), service=service, type=kind, types=[text(kind) for kind in stacks.KINDS if kind in {kind for _, kind in met}],
                 services=services[:2], service_count=len(services),
@@ -104,8 +104,8 @@ def check(checked, paths, accept=(b"", ()), given=()):
     for (file, at, number, detail), met in found:
         sentence = host.said(checked, file, at, number, detail, quoted, lambda name: text(name).encode())
         stack = detail[:2] if isinstance(detail, tuple) else None
-        yield finding(paths[file], at, host.level_of(number, detail), host.name_of(number), sentence, stack, () if stack else met or (),
-                      host.way_in(number, detail))
+        yield finding(paths[file], at, host.level_of(number, detail), host.name_of(number), sentence, stack, host.named_met(detail, met),
+                      checked.ways.get((file, at, number, detail), ()))
     for table, at, number in of_tables:
         yield finding(given[table][0], at, host_tables.level_of(number), host_tables.name_of(number), host_tables.sentence(table, number))
     for at in unused:
@@ -207,3 +207,13 @@ def policy(judgement):
         yield line("rule", **of_rule(rule), verdict=verdict, stacks=len(places))
     levels = judgement.levels
     yield line("total", rules=len(judgement.rules), stacks=judgement.stacks, errors=levels.count(2), warnings=levels.count(1), notes=0)
+
+
+# The lines of `needs` after the first.
+
+def needs(service, kind, rules):
+    """What `needs` prints of the rules that hold of a stack, `None` if no answers let anybody in."""
+    for said in rules or []:
+        events = [{"module": text(event.name), "argument": event.argument if event.argument is None else text(event.argument)} for event in said.events]
+        yield line("rule", rule=text(b" ".join([service, kind, *said.words()])), verb=text(said.verb), asked=said.is_asked, events=events)
+    yield line("total", way_in=rules is not None, rules=len(rules or []))

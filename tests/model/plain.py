@@ -7,7 +7,7 @@ words that it does not take is its own, so standard error is `None` then. Help a
 import re
 from itertools import islice
 
-from model import compare, graph, json_lines, policies, policy_text, readings, services, sources, stacks, tables, zones
+from model import compare, graph, json_lines, needs, policies, policy_text, readings, services, sources, stacks, tables, zones
 from model import given as plain_given
 from model import host as plain_host
 from model import outcomes as plain_outcomes
@@ -26,23 +26,26 @@ OPTIONS = {
     b"outcomes": SOURCES + b" --json" + ANSWERS + KNOWING,
     b"graph": SOURCES + b" --format" + ANSWERS + KNOWING,
     b"policy": SOURCES + b" --facts --fail-on --json" + KNOWING,
+    b"needs": SOURCES + b" --facts --json" + KNOWING,
     b"access": b"--access --user --group --rhost --tty --json",
     b"time": b"--time --user --tty --at --at-unix --zone --json",
     b"facts": b"",
     b"version": b"",
 }
 OF_PATHS = (b"paths", b"outcomes", b"graph")
-OF_LOGINS = (*OF_PATHS, b"policy")
+# Those that ask for the answers that facts leave, by the facts of policies.
+OF_POLICIES = (b"policy", b"needs")
+OF_LOGINS = (*OF_PATHS, *OF_POLICIES)
 REPEATED = (b"--access", b"--modules", b"--with", b"--set")
 FLAGS = {b"compare": [b"--conf", b"--root", b"--json"],
-         **dict.fromkeys([b"check", b"show", b"decide", b"paths", b"outcomes", b"policy", b"access", b"time"], [b"--json"])}
+         **dict.fromkeys([b"check", b"show", b"decide", b"paths", b"outcomes", *OF_POLICIES, b"access", b"time"], [b"--json"])}
 WITH_SOURCE = [name for name, options in OPTIONS.items() if options.startswith(SOURCES)]
 ABOUT = (b"facts", b"version")
 VERSION = b"pamcheck 1.0.0 (proved with rattle, logic dac8208d650f15bf)\n"
 REQUIRED = {b"access": [b"--access", b"--user"], b"time": [b"--time", b"--user"]}
-MOST_ARGUMENTS = {b"compare": 4, b"facts": 0, b"version": 0, b"show": 2, b"paths": 2, b"outcomes": 2, b"graph": 2, b"time": 1}
-LEAST_ARGUMENTS = {b"check": 0, b"compare": 2, b"facts": 0, b"version": 0, b"show": 2, b"decide": 2, b"paths": 2, b"outcomes": 2, b"graph": 2,
-                   b"policy": 1, b"access": 1, b"time": 1}
+MOST_ARGUMENTS = {b"compare": 4, b"facts": 0, b"version": 0, b"show": 2, b"paths": 2, b"outcomes": 2, b"graph": 2, b"needs": 2, b"time": 1}
+LEAST_ARGUMENTS = {b"check": 0, b"compare": 2, b"facts": 0, b"version": 0, b"show": 1, b"decide": 2, b"paths": 2, b"outcomes": 2, b"graph": 2,
+                   b"needs": 2, b"policy": 1, b"access": 1, b"time": 1}
 MOST_COUNTED = 2 ** 128
 
 
@@ -129,7 +132,7 @@ class Request:
     def judge(self):
         """Refuses words, the candidates aside."""
         if self.command in WITH_SOURCE:
-            sources.judge(self.options, self.command in (b"check", b"policy"))
+            sources.judge(self.options, self.command in (b"check", *OF_POLICIES))
         if self.options.get(b"--fail-on", b"warning") not in plain_host.LEVELS:
             raise Fault("U13")
         if self.command == b"compare":
@@ -141,8 +144,9 @@ class Request:
         if self.command in (b"check", b"compare", b"policy", *ABOUT):
             return
         self.service = self.arguments[0].lower()
-        if self.command in (b"show", b"decide", b"paths", b"outcomes", b"graph"):
-            self.kind = self.arguments[1].lower()
+        if self.command in (b"show", b"decide", b"needs", *OF_PATHS):
+            self.kinds = [word.lower() for word in self.arguments[1:2]] or stacks.KINDS
+            self.kind = self.kinds[0]
             if self.kind not in stacks.KINDS:
                 raise Fault("U3")
         if self.command == b"decide":
@@ -157,7 +161,7 @@ class Request:
             raise Fault("U20")
         self.decisions = decisions_of(self.options[b"--decision"]) if b"--decision" in self.options else set()
         self.settings = settings_of(self.options)
-        if self.command in (*OF_PATHS, b"time"):
+        if self.command in (b"needs", b"time", *OF_PATHS):
             self.judge_login_and_moment()
         if b"--as" in self.options and (self.options[b"--as"] not in readings.RELEASES or self.is_json()):
             raise Fault("U16")
@@ -202,7 +206,7 @@ class Request:
         if self.command in OF_LOGINS:
             self.learn(source, tree)
         for option in (b"--group", b"--time", b"--facts", b"--returns"):
-            is_asked = option != b"--facts" or self.command == b"policy" or self.command in OF_PATHS and self.answers == b"possible"
+            is_asked = option != b"--facts" or self.command in OF_POLICIES or self.command in OF_PATHS and self.answers == b"possible"
             if option in self.options and is_asked and self.command != b"check":
                 self.tables[option] = read(tree, self.options[option])
         if self.command == b"access":
@@ -218,8 +222,10 @@ class Request:
             return self.check(source, tree)
         if self.command == b"policy":
             return self.policy(source, [(name, read(tree, name)) for name in self.arguments])
-        if b"--as" in self.options:
-            return readings.shown(source.files, self.service, self.kind, self.options[b"--as"], shown_word_text), 0
+        if self.command == b"needs":
+            return self.needs(source.files)
+        if self.command == b"show":
+            return b"".join([self.shown(source.files, kind) for kind in self.kinds]), 0
         if self.command in (b"outcomes", b"graph"):
             services.judge(source.files, self.arguments[:1], self.options)
             self.facts = tuple(tuple(row) for row in plain_given.facts(self.tables.get(b"--facts", b"")))
@@ -227,10 +233,6 @@ class Request:
         header = b"%s %s %d modules\n" % (self.service, self.kind, len(modules))
         if self.is_json():
             header = json_lines.stack(self.service, self.kind, modules)
-        if self.command == b"show" and self.is_json():
-            return header + b"".join(json_lines.items(items)), 0
-        if self.command == b"show":
-            return header + b"".join(item_lines(items, b"")), 0
         if self.command == b"decide":
             text, status = self.decide(items, modules)
             return header + text, status
@@ -239,6 +241,15 @@ class Request:
         if self.command == b"outcomes":
             return header + self.outcomes(items, modules), 0
         return header + self.page(items, modules), 0
+
+    def shown(self, files, kind):
+        """What `show` says of a kind."""
+        if b"--as" in self.options:
+            return readings.shown(files, self.service, kind, self.options[b"--as"], shown_word_text)
+        items, modules = stacks.resolve(files, self.service, kind)
+        if self.is_json():
+            return json_lines.stack(self.service, kind, modules) + b"".join(json_lines.items(items))
+        return b"%s %s %d modules\n" % (self.service, kind, len(modules)) + b"".join(item_lines(items, b""))
 
     def is_json(self):
         """Whether the answer is JSON."""
@@ -284,17 +295,40 @@ class Request:
         form, files = source.files.form, source.files.files
         if self.candidates:
             services.judge_candidates(plain_host.Host(form, files), [name for name, _ in self.candidates])
-        self.facts = tuple(tuple(row) for row in plain_given.facts(self.tables.get(b"--facts", b"")))
+        self.read_facts()
         rules = []
         for name, data in named:
             rules += policy_text.rules_of(name, data, len(rules), plain_host.shown)
         self.moment()
-        side = compare.Side(source.files, self.there, self.facts, {}, self.settings)
-        if any(not codes or not side.calls(key) for key, codes in self.settings):
-            raise Fault("U10")
+        self.judge_keys(source.files)
         judgement = policies.Judgement(policies.Host(source.files, self.there, self.facts, self.answers_at), rules)
         status = plain_host.status(judgement.levels, self.options.get(b"--fail-on", b"warning"))
         return judgement.json() if self.is_json() else judgement.text(), status
+
+    def needs(self, files):
+        """The rules that hold of a stack."""
+        services.judge(files, self.arguments[:1], self.options)
+        self.read_facts()
+        self.moment()
+        self.judge_keys(files)
+        items, modules = stacks.resolve(files, self.service, self.kind)
+        codes = self.answers_at(self.service, self.kind, modules)
+        plain_outcomes.outcomes(items, codes)  # refuses too many places
+        self.stack = policies.Stack(self.kind, items, modules, codes, self.facts)
+        rules = needs.Rules(self.stack).all()
+        if self.is_json():
+            return json_lines.stack(self.service, self.kind, modules) + b"".join(json_lines.needs(self.arguments[0], self.kind, rules)), 0
+        return needs.told(self.arguments[0], self.kind, modules, rules), 0
+
+    def read_facts(self):
+        """The rows of the facts file."""
+        self.facts = tuple(tuple(row) for row in plain_given.facts(self.tables.get(b"--facts", b"")))
+
+    def judge_keys(self, files):
+        """Refuses a key that is no module's name, and one whose codes leave none."""
+        side = compare.Side(files, self.there, self.facts, {}, self.settings)
+        if any(not codes or not side.calls(key) for key, codes in self.settings):
+            raise Fault("U10")
 
     def answers_at(self, service, kind, modules):
         """The codes that each module of a stack may answer."""
@@ -370,7 +404,7 @@ class Request:
 
     def said(self, module):
         """The codes of a module of which neither a setting, nor a table, nor a line of the returns file tells."""
-        if self.command == b"policy":
+        if self.command in OF_POLICIES:
             return policies.possible(module, self.kind, self.facts)
         if self.answers == b"any":
             return set(stacks.CODES)
