@@ -1,7 +1,7 @@
 # Completion of pamcheck for bash, by the package bash-completion. It never runs pamcheck itself, whose launcher may compile.
 
 # Made by completions/make, up to the next mark: do not edit.
-_pamcheck_commands='check compare policy show decide paths outcomes graph access time explain facts version help'
+_pamcheck_commands='check compare policy show decide paths outcomes graph needs access time explain facts version help'
 _pamcheck_codes='success open_err symbol_err service_err system_err buf_err perm_denied auth_err cred_insufficient
     authinfo_unavail user_unknown maxtries new_authtok_reqd acct_expired session_err cred_unavail
     cred_expired cred_err no_module_data conv_err authtok_err authtok_recover_err authtok_lock_busy
@@ -10,7 +10,7 @@ _pamcheck_numbers='E1 E2 E3 E4 E5 E6 E7 E8 E9 E10 E11 E12 E13 E14 E15 E16 E17 E1
     TE8 TE9 TE10 TE11 TE12 TE13 TE14 TE15 TE16 TE17 TE18 TE19 TE20 TE21 TE22 TE23 TE24 C1 C2 C3 C4 M1 M2
     M4 U1 U2 U3 U4 U5 U6 U7 U8 U9 U10 U11 U12 U13 U14 U15 U16 U17 U18 U19 U20 V1 V2 L1 L2 L3 L4 L5 L6 L7
     L8 L9 L10 A1 A2 A3 A4 A5 A6 A7 T1 T2 T3 T4 S1 S2 S3 S4 S5 S6 S7 S8 S9 S10 S11 S12 S13 S14 S15 S16
-    S17 S18 S19 S22 S23 S25 S26 S27 P1 P2 P3 P4 P5 P6 P7'
+    S17 S18 S19 S20 S22 S23 S25 S26 S27 P1 P2 P3 P4 P5 P6 P7'
 
 # The options of a command.
 _pamcheck_options() {
@@ -28,6 +28,8 @@ _pamcheck_options() {
             --access --time --group --returns --set --at --at-unix --zone --help' ;;
         graph) echo '--dir --vendor-dir --conf --root --with --format --answers --facts --modules --user --rhost --tty
             --access --time --group --returns --set --at --at-unix --zone --help' ;;
+        needs) echo '--dir --vendor-dir --conf --root --with --json --facts --modules --user --rhost --tty --access
+            --time --group --returns --set --at --at-unix --zone --help' ;;
         access) echo '--access --user --tty --group --rhost --json --help' ;;
         time) echo '--time --user --tty --at --at-unix --zone --json --help' ;;
         *) echo --help ;;
@@ -52,8 +54,8 @@ _pamcheck_takes() {
         *:--format) takes='dot mermaid svg' ;;
         *:--*) takes=text ;;
         compare:0 | compare:1) takes=file ;;
-        compare:2 | show:0 | decide:0 | paths:0 | outcomes:0 | graph:0 | access:0 | time:0) takes=service ;;
-        compare:3 | show:1 | decide:1 | paths:1 | outcomes:1 | graph:1) takes='auth account password session' ;;
+        compare:2 | show:0 | decide:0 | paths:0 | outcomes:0 | graph:0 | needs:0 | access:0 | time:0) takes=service ;;
+        compare:3 | show:1 | decide:1 | paths:1 | outcomes:1 | graph:1 | needs:1) takes='auth account password session' ;;
         explain:0) takes=number ;;
         check:*) takes=service ;;
         policy:*) takes=file ;;

@@ -115,7 +115,7 @@ complete -c pamcheck -n __pamcheck_no_command -s V -l version -d 'Print version'
 complete -c pamcheck -n '__pamcheck_at 1 1 help' -a '$__pamcheck_commands'
 
 # Made by completions/make, up to the next mark: do not edit.
-set -g __pamcheck_commands check compare policy show decide paths outcomes graph access time explain facts version help
+set -g __pamcheck_commands check compare policy show decide paths outcomes graph needs access time explain facts version help
 set -g __pamcheck_codes success open_err symbol_err service_err system_err buf_err perm_denied auth_err cred_insufficient \
     authinfo_unavail user_unknown maxtries new_authtok_reqd acct_expired session_err cred_unavail \
     cred_expired cred_err no_module_data conv_err authtok_err authtok_recover_err authtok_lock_busy \
@@ -124,7 +124,7 @@ set -g __pamcheck_numbers E1 E2 E3 E4 E5 E6 E7 E8 E9 E10 E11 E12 E13 E14 E15 E16
     TE8 TE9 TE10 TE11 TE12 TE13 TE14 TE15 TE16 TE17 TE18 TE19 TE20 TE21 TE22 TE23 TE24 C1 C2 C3 C4 M1 M2 \
     M4 U1 U2 U3 U4 U5 U6 U7 U8 U9 U10 U11 U12 U13 U14 U15 U16 U17 U18 U19 U20 V1 V2 L1 L2 L3 L4 L5 L6 L7 \
     L8 L9 L10 A1 A2 A3 A4 A5 A6 A7 T1 T2 T3 T4 S1 S2 S3 S4 S5 S6 S7 S8 S9 S10 S11 S12 S13 S14 S15 S16 \
-    S17 S18 S19 S22 S23 S25 S26 S27 P1 P2 P3 P4 P5 P6 P7
+    S17 S18 S19 S20 S22 S23 S25 S26 S27 P1 P2 P3 P4 P5 P6 P7
 # The options without a value: those of each command, and those of one.
 set -g __pamcheck_flags --json 'compare --conf' 'compare --root'
 
@@ -140,6 +140,8 @@ complete -c pamcheck -n '__pamcheck_no_command' -a paths -d 'Lists the paths thr
 complete -c pamcheck -n '__pamcheck_no_command' -a outcomes \
     -d 'Counts the paths through a stack by their decisions'
 complete -c pamcheck -n '__pamcheck_no_command' -a graph -d 'Draws the graph of a stack'
+complete -c pamcheck -n '__pamcheck_no_command' -a needs \
+    -d 'Lists the rules that hold of a stack, as a policy'
 complete -c pamcheck -n '__pamcheck_no_command' -a access -d 'Looks a login up in access tables'
 complete -c pamcheck -n '__pamcheck_no_command' -a time -d 'Looks a login up in a time table'
 complete -c pamcheck -n '__pamcheck_no_command' -a explain \
@@ -155,9 +157,9 @@ complete -c pamcheck -n '__pamcheck_at 2 2 compare' -F -d 'New'
 complete -c pamcheck -n '__pamcheck_at 3 3 compare' -a '(__pamcheck_services)' -d 'Service'
 complete -c pamcheck -n '__pamcheck_at 4 4 compare' -a 'auth account password session' -d 'Kind'
 complete -c pamcheck -n '__pamcheck_at 1 999 policy' -F -d 'Policy'
-complete -c pamcheck -n '__pamcheck_at 1 1 show decide paths outcomes graph access time' -a '(__pamcheck_services)' \
+complete -c pamcheck -n '__pamcheck_at 1 1 show decide paths outcomes graph needs access time' -a '(__pamcheck_services)' \
     -d 'Service'
-complete -c pamcheck -n '__pamcheck_at 2 2 show decide paths outcomes graph' -a 'auth account password session' \
+complete -c pamcheck -n '__pamcheck_at 2 2 show decide paths outcomes graph needs' -a 'auth account password session' \
     -d 'Kind'
 complete -c pamcheck -n '__pamcheck_at 3 999 decide' -a '$__pamcheck_codes' -d 'Code'
 complete -c pamcheck -n '__pamcheck_at 2 999 access' -a 'fieldsep= listsep= nodefgroup' \
@@ -165,54 +167,54 @@ complete -c pamcheck -n '__pamcheck_at 2 999 access' -a 'fieldsep= listsep= node
 complete -c pamcheck -n '__pamcheck_at 1 1 explain' -a '$__pamcheck_numbers' -d 'Number'
 
 # The options, each after the commands that have it.
-complete -c pamcheck -n '__pamcheck_in check policy show decide paths outcomes graph' -l dir -x -a '(__fish_complete_directories)' \
+complete -c pamcheck -n '__pamcheck_in check policy show decide paths outcomes graph needs' -l dir -x -a '(__fish_complete_directories)' \
     -d 'The folder with a file for each service'
-complete -c pamcheck -n '__pamcheck_in check policy show decide paths outcomes graph' -l vendor-dir -x -a '(__fish_complete_directories)' \
+complete -c pamcheck -n '__pamcheck_in check policy show decide paths outcomes graph needs' -l vendor-dir -x -a '(__fish_complete_directories)' \
     -d 'The folder for services that --dir lacks'
-complete -c pamcheck -n '__pamcheck_in check policy show decide paths outcomes graph' -l conf -r -F \
+complete -c pamcheck -n '__pamcheck_in check policy show decide paths outcomes graph needs' -l conf -r -F \
     -d 'The file for all services'
-complete -c pamcheck -n '__pamcheck_in check policy show decide paths outcomes graph' -l root -x -a '(__fish_complete_directories)' \
+complete -c pamcheck -n '__pamcheck_in check policy show decide paths outcomes graph needs' -l root -x -a '(__fish_complete_directories)' \
     -d 'The root folder of a system'
-complete -c pamcheck -n '__pamcheck_in check policy show decide paths outcomes graph' -l with -x -a '(__pamcheck_candidates)' \
+complete -c pamcheck -n '__pamcheck_in check policy show decide paths outcomes graph needs' -l with -x -a '(__pamcheck_candidates)' \
     -d 'A file to read in place of the file NAME of the folder; may be repeated'
-complete -c pamcheck -n '__pamcheck_in check compare policy paths outcomes graph' -l modules -x -a '(__fish_complete_directories)' \
+complete -c pamcheck -n '__pamcheck_in check compare policy paths outcomes graph needs' -l modules -x -a '(__fish_complete_directories)' \
     -d 'A folder of modules, in which each module is looked for; may be repeated'
 complete -c pamcheck -n '__pamcheck_in check' -l access -r -F \
     -d 'An access table of pam_access.so, in place of those of the root; may be repeated'
 complete -c pamcheck -n '__pamcheck_in check' -l time -r -F \
     -d 'The time table of pam_time.so, in place of that of the root'
-complete -c pamcheck -n '__pamcheck_in check policy paths outcomes graph access' -l group -r -F \
+complete -c pamcheck -n '__pamcheck_in check policy paths outcomes graph needs access' -l group -r -F \
     -d 'The group file'
-complete -c pamcheck -n '__pamcheck_in check compare policy outcomes graph' -l facts -r -F \
+complete -c pamcheck -n '__pamcheck_in check compare policy outcomes graph needs' -l facts -r -F \
     -d 'What is known of more modules, a line for each; see pamcheck facts'
 complete -c pamcheck -n '__pamcheck_in check' -l accept -r -F \
     -d 'The findings that are meant to be, a line for each, as S2 SERVICE auth'
 complete -c pamcheck -n '__pamcheck_in check policy' -l fail-on -x -a 'error warning note' \
     -d 'error, warning or note: the least level that fails; warning if left out'
-complete -c pamcheck -n '__pamcheck_in check compare policy show decide paths outcomes access time' -l json \
+complete -c pamcheck -n '__pamcheck_in check compare policy show decide paths outcomes needs access time' -l json \
     -d 'Answer in JSON Lines'
 complete -c pamcheck -n '__pamcheck_in compare' -l conf -d 'OLD and NEW are files for all services'
 complete -c pamcheck -n '__pamcheck_in compare' -l root \
     -d 'OLD and NEW are root folders of systems'
-complete -c pamcheck -n '__pamcheck_in compare policy paths outcomes graph' -l returns -r -F \
+complete -c pamcheck -n '__pamcheck_in compare policy paths outcomes graph needs' -l returns -r -F \
     -d 'The codes that other modules can return'
-complete -c pamcheck -n '__pamcheck_in compare policy' -l set -x -a '(__pamcheck_settings)' \
+complete -c pamcheck -n '__pamcheck_in compare policy needs' -l set -x -a '(__pamcheck_settings)' \
     -d 'The codes that all modules of this name can return; may be repeated'
-complete -c pamcheck -n '__pamcheck_in policy paths outcomes graph' -l user -x -a '(__fish_complete_users)' \
+complete -c pamcheck -n '__pamcheck_in policy paths outcomes graph needs' -l user -x -a '(__fish_complete_users)' \
     -d 'The user'
-complete -c pamcheck -n '__pamcheck_in policy paths outcomes graph access' -l rhost -x -a '(__fish_print_hostnames)' \
+complete -c pamcheck -n '__pamcheck_in policy paths outcomes graph needs access' -l rhost -x -a '(__fish_print_hostnames)' \
     -d 'The remote host'
-complete -c pamcheck -n '__pamcheck_in policy paths outcomes graph access time' -l tty -x \
+complete -c pamcheck -n '__pamcheck_in policy paths outcomes graph needs access time' -l tty -x \
     -d 'The terminal'
-complete -c pamcheck -n '__pamcheck_in policy paths outcomes graph' -l access -r -F \
+complete -c pamcheck -n '__pamcheck_in policy paths outcomes graph needs' -l access -r -F \
     -d 'An access table of pam_access.so; needs --user; may be repeated'
-complete -c pamcheck -n '__pamcheck_in policy paths outcomes graph' -l time -r -F \
+complete -c pamcheck -n '__pamcheck_in policy paths outcomes graph needs' -l time -r -F \
     -d 'The time table of pam_time.so; needs --user and a moment'
-complete -c pamcheck -n '__pamcheck_in policy paths outcomes graph time' -l at -x \
+complete -c pamcheck -n '__pamcheck_in policy paths outcomes graph needs time' -l at -x \
     -d 'The moment, as 2024-05-06T10:00'
-complete -c pamcheck -n '__pamcheck_in policy paths outcomes graph time' -l at-unix -x \
+complete -c pamcheck -n '__pamcheck_in policy paths outcomes graph needs time' -l at-unix -x \
     -d 'The moment, in seconds since 1970'
-complete -c pamcheck -n '__pamcheck_in policy paths outcomes graph time' -l zone -x \
+complete -c pamcheck -n '__pamcheck_in policy paths outcomes graph needs time' -l zone -x \
     -d 'The POSIX zone rule of --at-unix; UTC0 if left out'
 complete -c pamcheck -n '__pamcheck_in show' -l as -x -a 'linux-pam-1.5 linux-pam-1.7' \
     -d 'linux-pam-1.5 or linux-pam-1.7: the rules of the file of the service, as this release reads them'

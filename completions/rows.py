@@ -135,9 +135,9 @@ def numbers(sources):
     for family in re.findall(r"(?m)^ +\d+ => of_(\w+)\(row\),$", sources.read(folder + "table.rt")):
         path = folder + family + ".rt"
         text = sources.read(path)
-        of_function = dict(re.findall(r'(?m)^fn (\w+)\(\) -> Explanation\n(?:.*\n){0,4}?        number: "(\w+)",$', text))
-        listed = re.findall(r"(?m)^ +\d+ => (\w+)\(\),$", text)
-        of += [sources.look_up(of_function, function, path, "number of") for function in listed]
+        of_constant = dict(re.findall(r'(?m)^const (\w+): Explanation = Explanation \{\n    number: "(\w+)",$', text))
+        listed = re.findall(r"(?m)^ +\d+ => &(\w+),$", text)
+        of += [sources.look_up(of_constant, constant, path, "number of") for constant in listed]
     if not of:
         raise NotUnderstood(folder + "table.rt: there are no families")
     return of
