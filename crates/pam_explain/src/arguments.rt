@@ -135,6 +135,32 @@ const NO_TOKEN: Explanation = Explanation {
     ),
 };
 
+const STORED_THOUGH_REFUSED: Explanation = Explanation {
+    number: "S21",
+    name: "StoredThoughRefused",
+    level: Level::Warning,
+    meaning: concat!(
+        "A module that checks new passwords, as pam_pwquality.so, may refuse one, and\n",
+        "some run of the password stack then asks this module. It has no use_authtok,\n",
+        "so it asks for another password itself, which nothing has checked, and stores\n",
+        "it. It does so even where the stack fails as a whole."
+    ),
+    example: concat!(
+        "# passwd\n",
+        "password required pam_pwquality.so retry=3\n",
+        "password required pam_unix.so shadow"
+    ),
+    linux_pam: concat!(
+        "such a module leaves no password where it refuses one, and ends\n",
+        "the stack only where its control says so. Then pam_get_authtok(3) asks\n",
+        "for one, unless the next module has use_authtok."
+    ),
+    mending: concat!(
+        "write use_authtok, so that the module takes only a password that\n",
+        "was checked, and fails where there is none."
+    ),
+};
+
 const NOT_COUNTED: Explanation = Explanation {
     number: "S22",
     name: "NotCounted",
@@ -142,8 +168,9 @@ const NOT_COUNTED: Explanation = Explanation {
     meaning: concat!(
         "A rule of pam_faillock counts failures, by its argument authfail, and no run\n",
         "of the auth stack asks one with preauth or authsucc, which refuses who failed\n",
-        "too often. Or a rule refuses them, and no run asks one that counts. In both\n",
-        "cases nobody is locked out, so passwords can be tried without end."
+        "too often. Or a rule refuses them, and no run asks one that counts; or the one\n",
+        "that counts is asked in no run after a module that checks has failed. In each\n",
+        "case nobody is locked out, so passwords can be tried without end."
     ),
     example: concat!(
         "# login\n",
@@ -192,8 +219,9 @@ pub(crate) fn of_arguments(row: usize) -> Option<&'static Explanation>
         3 => &BAD_VALUE,
         4 => &BAD_ARGUMENTS,
         5 => &NO_TOKEN,
-        6 => &NOT_COUNTED,
-        7 => &WEAK_HASH,
+        6 => &STORED_THOUGH_REFUSED,
+        7 => &NOT_COUNTED,
+        8 => &WEAK_HASH,
         _ => return None,
     })
 }

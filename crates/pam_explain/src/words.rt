@@ -160,12 +160,16 @@ const FORMAT_NAME: Explanation = Explanation {
     number: "U12",
     name: "FormatName",
     level: Level::Error,
-    meaning: "The word after --format is not a format that graph can draw.",
+    meaning: concat!(
+        "The word after --format is not a format of the command, or a format other\n",
+        "than json stands beside --json."
+    ),
     example: "$ pamcheck graph login auth --dir . --format png",
     linux_pam: FAULT_OF_WORDS,
     mending: concat!(
-        "write dot, mermaid or svg, in small letters. svg is a picture; of\n",
-        "dot, Graphviz makes one: dot -Tpng."
+        "for graph, write dot, mermaid or svg, in small letters. svg is a\n",
+        "picture; of dot, Graphviz makes one: dot -Tpng. For check, write\n",
+        "short, json or sarif, and no other one than json beside --json."
     ),
 };
 

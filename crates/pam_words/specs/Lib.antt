@@ -1,6 +1,7 @@
 pub mod Asked
 pub mod Candidates
 pub mod Decisions
+pub mod Mistakes
 pub mod Request
 pub mod Settings
 pub mod Values

@@ -12,6 +12,7 @@ use Rattle.pam_words.specs.Decisions.{decisions_of}
 use Rattle.pam_words.specs.Settings.{settings_of}
 use Rattle.pam_words.specs.Values.{answers_of, asks_of, candidates_of, codes_of_rows, format_of, kind_if_named, kind_of_rows, lacks_user}
 use Rattle.pam_words.specs.Values.{level_of, limit_of, login_of}
+use Rattle.pam_words.specs.declared.wanted.OutputForm.{OutputForm}
 use Rattle.pam_words.specs.Values.{moment_of, needs_moment, one_filter, output_of, part_of, release_of, side_in, source_of, source_or_root, text_of, texts_of}
 
 -- a refusal if there is no value
@@ -212,9 +213,16 @@ task_of command rows =
     else if bytes_eq command (codes "policy") then policy_task rows
     else stack_task_of command rows
 
+-- what a request has beside its task: the form of the answer, and then the candidates
+abbrev pub form_and_candidates : Text → List Row → Result (OutputForm × List (Text × Text)) Refusal
+form_and_candidates command rows =
+    or_refuse (output_of command rows) format_name (λ output.
+    candidates_of rows >>= λ candidates.
+    Ok (output, candidates))
+
 -- THE REQUEST of a command, or its first refusal. A command without SERVICE has the empty service
 abbrev pub request_of : Text → List Row → Result RequestText Refusal
 request_of command rows =
     task_of command rows >>= λ task.
-    candidates_of rows >>= λ candidates.
-    Ok (record { service = text_of (codes "service") rows; task = task; candidates = candidates; output = output_of rows })
+    form_and_candidates command rows >>= λ others.
+    Ok (record { service = text_of (codes "service") rows; task = task; candidates = others.1; output = others.0 })

@@ -20,7 +20,7 @@ use Rattle.pam_words.specs.declared.wanted.GraphFormat.TheVariants.{Dot, Mermaid
 use Rattle.pam_words.specs.declared.wanted.LevelName.{LevelName}
 use Rattle.pam_words.specs.declared.wanted.LevelName.TheVariants.{Error, Warning, Note}
 use Rattle.pam_words.specs.declared.wanted.OutputForm.{OutputForm}
-use Rattle.pam_words.specs.declared.wanted.OutputForm.TheVariants.{Json, PlainText}
+use Rattle.pam_words.specs.declared.wanted.OutputForm.TheVariants.{Json, PlainText, Sarif}
 use Rattle.pam_words.specs.declared.wanted.PathFilter.{PathFilter}
 use Rattle.pam_words.specs.declared.wanted.PathFilter.TheVariants.{All, Decides, Asks}
 use Rattle.pam_words.specs.declared.wanted.ReleaseName.{ReleaseName}
@@ -203,8 +203,26 @@ abbrev pub level_of : List Row → Option LevelName
 level_of rows = level_or_default (first_of (codes "fail-on") rows)
 
 -- JSON if `--json` is given, else text
-abbrev pub output_of : List Row → OutputForm
-output_of rows = if is_on (codes "json") rows then Json else PlainText
+abbrev pub json_or_text : List Row → OutputForm
+json_or_text rows = if is_on (codes "json") rows then Json else PlainText
+
+abbrev pub form_named : Text → Option OutputForm
+form_named name =
+    if bytes_eq name (codes "short") then Some PlainText
+    else if bytes_eq name (codes "json") then Some Json
+    else if bytes_eq name (codes "sarif") then Some Sarif
+    else None
+
+-- the form of a check, which `--json` and `--format` ask for alike where both are given. The columns are the values of `--format` and,
+-- as rows, of `--json`
+abbrev pub form_beside : Option Text → List Row → Option OutputForm
+form_beside None rows = Some (json_or_text rows)
+form_beside (Some name) rows = if is_on (codes "json") rows && not (bytes_eq name (codes "json")) then None else form_named name
+
+-- the form of the answer of a command. Only `check` has `--format` for it
+abbrev pub output_of : Text → List Row → Option OutputForm
+output_of command rows =
+    if bytes_eq command (codes "check") then form_beside (first_of (codes "format") rows) rows else Some (json_or_text rows)
 
 -- an access or time table is given, and no user
 abbrev pub lacks_user : List Row → Bool
@@ -223,9 +241,9 @@ release_named name =
 -- a release that is named, which has no JSON
 abbrev pub release_in : OutputForm → Option Text → Option (Option ReleaseName)
 release_in output None = Some None
-release_in Json (Some name) = None
 release_in PlainText (Some name) = option_map (λ release. Some release) (release_named name)
+release_in form (Some name) = None
 
 -- the release that `--as` names, if it is given
 abbrev pub release_of : List Row → Option (Option ReleaseName)
-release_of rows = release_in (output_of rows) (first_of (codes "as") rows)
+release_of rows = release_in (json_or_text rows) (first_of (codes "as") rows)

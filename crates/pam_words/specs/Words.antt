@@ -81,12 +81,12 @@ abbrev pub with_source : App → App
 with_source app =
     with_rule (with_options app (codes "dir" ∷ codes "vendor-dir" ∷ codes "conf" ∷ codes "root" ∷ [])) (repeated_option_rule (codes "with"))
 
--- the options of a check: the folders of modules, access tables, a time table and a group file, a facts file, an accept file and the
--- level that fails
+-- the options of a check: the folders of modules, access tables, a time table and a group file, a facts file, an accept file, the level
+-- that fails and the form of the answer
 abbrev pub with_check : App → App
 with_check app =
     with_options (with_access (with_rule app (repeated_option_rule (codes "modules"))))
-    (codes "time" ∷ codes "group" ∷ codes "facts" ∷ codes "accept" ∷ codes "fail-on" ∷ [])
+    (codes "time" ∷ codes "group" ∷ codes "facts" ∷ codes "accept" ∷ codes "fail-on" ∷ codes "format" ∷ [])
 
 -- `check [SERVICE]...`
 unfoldable pub check_app : App

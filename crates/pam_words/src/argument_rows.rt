@@ -223,6 +223,13 @@ pub(crate) const FORMAT: ArgRow = ArgRow {
     help: "dot (for Graphviz), mermaid or svg; dot if left out",
 };
 
+pub(crate) const OUTPUT_FORMAT: ArgRow = ArgRow {
+    form: ArgForm::Optional,
+    id: "format",
+    name: "FORM",
+    help: "short (for people), json (as --json) or sarif (for code scanning); short if left out",
+};
+
 pub(crate) const ANSWERS: ArgRow = ArgRow {
     form: ArgForm::Optional,
     id: "answers",

@@ -3,8 +3,8 @@
 use crate::arguments::Argument::{
     self, Accept, Access, AccessTables, After, Answers, AreFiles, AreRoots, Asks, At, AtUnix,
     Before, Conf, Decision, Dir, Facts, FailOn, Format, Group, HostAccess, HostTime, Json, Limit,
-    Modules, Release, Returns, Rhost, Root, Set, SetByName, TableUser, Time, TimeTable, Tty, User,
-    VendorDir, With, Zone,
+    Modules, OutputFormat, Release, Returns, Rhost, Root, Set, SetByName, TableUser, Time,
+    TimeTable, Tty, User, VendorDir, With, Zone,
 };
 use crate::arguments::Word;
 use crate::examples;
@@ -50,8 +50,21 @@ pub(crate) static HOSTS: [CommandRow; 3] = [
         about: "Checks all services for faults, and for stacks that let nobody or anybody in",
         examples: examples::CHECK,
         args: &[
-            Dir, VendorDir, Conf, Root, With, Modules, HostAccess, HostTime, Group, Facts, Accept,
-            FailOn, Json, SERVICES,
+            Dir,
+            VendorDir,
+            Conf,
+            Root,
+            With,
+            Modules,
+            HostAccess,
+            HostTime,
+            Group,
+            Facts,
+            Accept,
+            FailOn,
+            OutputFormat,
+            Json,
+            SERVICES,
         ],
     },
     CommandRow {

@@ -6,11 +6,14 @@ mod argument_rows;
 mod arguments;
 mod commands;
 mod examples;
+mod mistake;
 mod number;
 mod reading;
 mod wanted;
 mod words;
 
+pub use mistake::Mistake;
+pub use reading::mistakes::find_mistake;
 pub use reading::request;
 pub use wanted::{
     Answers, Candidate, CheckFiles, CompareFiles, ConfSource, GraphFormat, KnowledgeSource,

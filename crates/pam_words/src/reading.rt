@@ -7,7 +7,7 @@ ghost use Rattle.std.specs.Option.{option_copied};
 ghost use Rattle.clap.specs.Words.{found_of, rows_of, first_of, all_of, takes, fault_of, subcommand_of};
 ghost use Rattle.pam_words.specs.Request.{access_task, decide_task, other_task_of, request_of, stack_of, stack_task_of, task_of, time_task};
 ghost use Rattle.pam_words.specs.Decisions.{code_named as code_of_name, codes_named as codes_of_names};
-ghost use Rattle.pam_words.specs.Values.{codes_of_rows, is_on as is_on_in, kind_if_named as kind_in, output_of};
+ghost use Rattle.pam_words.specs.Values.{codes_of_rows, is_on as is_on_in, kind_if_named as kind_in};
 ghost use Rattle.pam_words.specs.Values.{instant_of, kind_of_rows, login_of, moment_of, seconds_of, source_of, text_of, texts_of as texts_in};
 ghost use Rattle.pam_words.specs.Wanted.{Answers, Gives, IsRead, IsRefusal, Reads, RefusesBy, login_view, moment_view, source_view};
 ghost use Rattle.pam_words.specs.inner.Wanted.{GivesTask, IsRefusalOf};
@@ -17,15 +17,17 @@ mod candidates;
 mod checks;
 mod compare;
 mod decisions;
+mod form;
 mod graph;
 mod knowledge;
+pub(crate) mod mistakes;
 mod needs;
 mod paths;
 mod policy;
 mod settings;
 mod show;
 
-use crate::wanted::{ConfSource, Login, Moment, OutputForm, Request, Task, Usage};
+use crate::wanted::{ConfSource, Login, Moment, Request, Task, Usage};
 use crate::words::command_for;
 use clap::error::ErrorKind;
 use clap::{ArgMatches, Error};
@@ -322,28 +324,17 @@ fn task<'a>(alloc: Global, command: &str, matches: &ArgMatches<'a>) -> Result<Ta
     }
 }
 
-/// Returns the form of the answer.
-fn output(matches: &ArgMatches<'_>) -> OutputForm
-    ensures { result ≡ output_of (rows_of (found_of matches.now)) }
-{
-    if is_on(matches, "json") {
-        OutputForm::Json
-    } else {
-        OutputForm::PlainText
-    }
-}
-
 /// Reads the request of a command from its values.
 fn read<'a>(alloc: Global, command: &str, matches: &ArgMatches<'a>) -> Result<Request<'a>, Usage>
     ensures { Answers (request_of command.now (rows_of (found_of matches.now))) result }
 {
     let task = task(alloc, command, matches)?;
-    match candidates::candidates(alloc, matches) {
-        Ok(candidates) => Ok(Request {
+    match form::form_and_candidates(alloc, command, matches) {
+        Ok((output, candidates)) => Ok(Request {
             service: text(matches, "service"),
             task,
             candidates,
-            output: output(matches),
+            output,
         }),
         Err(usage) => {
             // A call, since to prove the drop of each variant in place takes longer.

@@ -34,6 +34,8 @@ pub enum OutputForm {
     PlainText,
     /// JSON Lines.
     Json,
+    /// One document in SARIF 2.1.0, of `check` alone.
+    Sarif,
 }
 
 /// A release of Linux-PAM, whose reading of a file is shown.
@@ -303,7 +305,7 @@ pub enum Usage {
     /// U4: a CODE, also one of `--decision` or `--set`, is not the name of a code.
     #[error("unknown code")]
     CodeName,
-    /// U12: the value of `--format` is not the name of a format.
+    /// U12: the value of `--format` is not the name of a format, or is another one than `json` beside `--json`.
     #[error("unknown format")]
     FormatName,
     /// U13: the value of `--fail-on` is not the name of a level.

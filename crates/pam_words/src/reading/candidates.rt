@@ -15,7 +15,7 @@ use pam_facts::known::name_of_path;
 use pam_text::Texts;
 use std::alloc::{AllocError, Global};
 
-fn has_slash(text: &[u8]) -> bool
+pub(crate) fn has_slash(text: &[u8]) -> bool
     ensures { result ≡ has_slash_in text.now }
 {
     text.iter().any(|byte| *byte == b'/')
@@ -38,7 +38,7 @@ fn push_files<'a>(given: &mut Vec<Candidate<'a>>, words: &[&'a str]) -> Result<(
 }
 
 /// Cuts `NAME=FILE`. Without a `=` the file is empty.
-fn cut<'a>(text: &'a str) -> Candidate<'a>
+pub(crate) fn cut<'a>(text: &'a str) -> Candidate<'a>
     ensures { candidate_view result ≡ given_by text.now }
 {
     let (name, file) = text.split_once('=').unwrap_or((text, ""));
@@ -74,7 +74,7 @@ fn given<'a>(alloc: Global, matches: &ArgMatches<'a>) -> Result<Vec<Candidate<'a
 }
 
 /// Whether a name without a slash and a file are given, not beside `--conf`.
-fn is_candidate(has_conf: bool, given: &Candidate<'_>) -> bool
+pub(crate) fn is_candidate(has_conf: bool, given: &Candidate<'_>) -> bool
     ensures { result ≡ is_candidate_text has_conf (candidate_view given.now) }
 {
     !has_conf && !given.name.is_empty() && !given.file.is_empty() && !has_slash(given.name)

@@ -16,7 +16,7 @@ use clap::ArgMatches;
 use std::alloc::{AllocError, Global};
 
 /// Whether an option of a source is given.
-fn names_source(matches: &ArgMatches<'_>) -> bool
+pub(crate) fn names_source(matches: &ArgMatches<'_>) -> bool
     ensures { result ≡ has_source (rows_of (found_of matches.now)) }
 {
     has(matches, "dir")

@@ -15,7 +15,7 @@ use pam_facts::settings::Setting;
 use std::alloc::Global;
 
 /// Cuts `KEY=CODES`. Returns `None` if there is no `=`, or the key is empty.
-fn key_and_codes(text: &str) -> Option<(&str, &str)>
+pub(crate) fn key_and_codes(text: &str) -> Option<(&str, &str)>
     ensures { option_map (λ p. (p.0.now, p.1.now)) result ≡ key_in (name_and_value text.now) }
 {
     let Some((key, codes)) = text.split_once('=') else {

@@ -6,7 +6,8 @@ ghost use Rattle.pam_words.specs.Request.{show_task};
 ghost use Rattle.pam_words.specs.Values.{release_named as release_of_name, release_of};
 ghost use Rattle.pam_words.specs.inner.Wanted.{GivesTask};
 
-use crate::reading::{kind_if_named, output, source, value};
+use crate::reading::form::json_or_text;
+use crate::reading::{kind_if_named, source, value};
 use crate::wanted::{OutputForm, ReleaseName, Task, Usage};
 use clap::ArgMatches;
 
@@ -29,7 +30,7 @@ fn release(matches: &ArgMatches<'_>) -> Option<Option<ReleaseName>>
     let Some(name) = value(matches, "as") else {
         return Some(None);
     };
-    match (output(matches), release_named(name)) {
+    match (json_or_text(matches), release_named(name)) {
         (OutputForm::PlainText, Some(release)) => Some(Some(release)),
         _ => None,
     }
