@@ -25,8 +25,10 @@ pub mod Reporting
 pub mod Ruled
 pub mod Seen
 pub mod Silence
+pub mod Storing
 pub mod Taking
 pub mod Tokens
+pub mod Uncounted
 pub mod Vain
 pub mod Vendored
 pub mod Verdicted

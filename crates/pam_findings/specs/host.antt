@@ -19,6 +19,7 @@ pub mod Problems
 pub mod Report
 pub mod Separators
 pub mod StackProblems
+pub mod Storing
 pub mod Tokens
 pub mod Unasked
 pub mod UnknownModules

@@ -149,6 +149,8 @@ module _ (folder : Folder) where
   from-folder file line problems.EmptySeparator first h = absurd (false≢true h)
   from-folder file line problems.UnknownModule first h = absurd (false≢true h)
   from-folder file line problems.LinkOutside first h = absurd (false≢true h)
+  from-folder file line (problems.StoredThoughRefused by) first h = absurd (false≢true h)
+  from-folder file line problems.NoFailureCounted first h = absurd (false≢true h)
   from-folder file line (problems.NotCounted counts) first h = absurd (false≢true h)
   from-folder file line problems.SuccessNeverCounts first h = absurd (false≢true h)
 

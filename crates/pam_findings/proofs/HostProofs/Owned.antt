@@ -120,6 +120,8 @@ module _ (folder : Folder) (start file : ℕ) (bytes : List ℕ) where
   to_spot line problems.UnknownModule h = absurd h
   to_spot line problems.SuccessNeverCounts h = absurd h
   to_spot line problems.LinkOutside h = absurd h
+  to_spot line (problems.StoredThoughRefused by) h = absurd h
+  to_spot line problems.NoFailureCounted h = absurd h
   to_spot line (problems.NotCounted counts) h = absurd h
 
   abbrev Has : Spot → Type 0

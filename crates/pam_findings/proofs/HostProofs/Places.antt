@@ -18,7 +18,7 @@ use Rattle.pam_released.specs.declared.difference.Difference.{Difference}
 use Rattle.pam_released.specs.declared.difference.Difference.TheVariants.{CarriageReturn, ContinuedOverBlank, BackslashBlank, BackslashComment}
 use Rattle.pam_released.specs.declared.difference.Difference.TheVariants.{EndsInContinuation, CapitalInBrackets, LongLine, EmptyModuleName, DroppedBlank}
 use Rattle.pam_released.specs.Findings.{number_of}
-use Rattle.pam_findings.specs.host.Problems.{compare_places, kind_of, number_of_answer, number_of_anybody, number_of_kind, number_of_lack, number_of_nobody, place_of}
+use Rattle.pam_findings.specs.host.Problems.{compare_places, kind_of, number_of_answer, number_of_anybody, number_of_kind, number_of_lack, number_of_nobody, number_of_refuser, place_of}
 use Rattle.pam_findings.specs.host.Problems.{rank_of, rank_of_argument, rank_of_fault, reaction_of, service_of}
 use Rattle.pam_findings.specs.host.inner.Table.{Puts, Removes, Table, finding_at}
 use Rattle.pam_findings.specs.declared.host.problem.ArgumentProblem.{ArgumentProblem}
@@ -27,6 +27,8 @@ use Rattle.pam_findings.specs.declared.host.problem.Place.{Place}
 use Rattle.pam_findings.specs.declared.host.problem.Problem.{Problem}
 use Rattle.pam_findings.specs.declared.host.problem.Problem.TheVariants as problems
 use Rattle.pam_findings.specs.declared.host.problem.Spot.{Spot}
+use Rattle.pam_findings.specs.declared.host.refusing.Refuser.{Refuser}
+use Rattle.pam_findings.specs.declared.host.refusing.Refuser.TheVariants as refusers
 use Rattle.pam_findings.specs.declared.host.report.Finding.{Finding}
 use Rattle.pam_findings.proofs.HostProofs.PlaceOrder.{exact_places, places_total}
 
@@ -67,6 +69,12 @@ wrong_numbered n reaction =
 abbrev lack_numbered : ℕ → Lack
 lack_numbered n = slice_index_or (lacks.Program ∷ lacks.List ∷ lacks.Database ∷ lacks.UserType ∷ []) n lacks.Condition
 
+abbrev refuser_numbered : ℕ → Refuser
+refuser_numbered n = slice_index_or (refusers.Cracklib ∷ refusers.Passwdqc ∷ refusers.Pwhistory ∷ []) n refusers.Pwquality
+
+abbrev counting_numbered : ℕ → Problem
+counting_numbered n = if nat_lt n 2 then problems.NotCounted (nat_lt 0 n) else problems.NoFailureCounted
+
 abbrev answer_numbered : ℕ → ℕ → Problem
 answer_numbered service n = problems.OtherAnswers service (kind_numbered (n / 4)) (nat_lt 1 (n % 4)) (nat_lt 0 (n % 2))
 
@@ -93,7 +101,8 @@ other_numbered n service kind =
     else if nat_lt n 29 then problems.Argument service (wrong_numbered (n - 25) kind)
     else if nat_lt n 30 then problems.BadArguments (lack_numbered kind)
     else if nat_lt n 31 then problems.Argument service arguments.NoToken
-    else if nat_lt n 33 then problems.NotCounted (nat_lt 0 kind)
+    else if nat_lt n 32 then problems.StoredThoughRefused (refuser_numbered kind)
+    else if nat_lt n 33 then counting_numbered kind
     else if nat_lt n 34 then problems.Argument service arguments.Weak
     else if nat_lt n 36 then problems.UnknownModule
     else if nat_lt n 37 then problems.SuccessNeverCounts
@@ -248,6 +257,13 @@ of_lack lacks.Database = refl
 of_lack lacks.UserType = refl
 of_lack lacks.Condition = refl
 
+of_refuser : (by : Refuser) → problem_of 81 0 (number_of_refuser by) ≡ problems.StoredThoughRefused by
+unfolding problem_of
+of_refuser refusers.Cracklib = refl
+of_refuser refusers.Passwdqc = refl
+of_refuser refusers.Pwhistory = refl
+of_refuser refusers.Pwquality = refl
+
 of_problem : (problem : Problem) → problem_of (rank_of problem) (service_of problem) (kind_of problem) ≡ problem
 unfolding problem_of
 of_problem (problems.Fault fault) = of_fault fault
@@ -271,7 +287,9 @@ of_problem problems.EmptySeparator = refl
 of_problem problems.UnknownModule = refl
 of_problem problems.SuccessNeverCounts = refl
 of_problem problems.LinkOutside = refl
+of_problem (problems.StoredThoughRefused by) = of_refuser by
 of_problem (problems.NotCounted counts) = of_half counts
+of_problem problems.NoFailureCounted = refl
 of_problem (problems.Argument argument wrong) = of_argument argument wrong
 of_problem (problems.BadArguments lack) = of_lack lack
 

@@ -76,6 +76,8 @@ not-in-stack modules service name kind faults items home verdict spot folder sta
 not-in-stack modules service name kind faults items home verdict spot folder start bytes problems.UnknownModule h k = h
 not-in-stack modules service name kind faults items home verdict spot folder start bytes problems.SuccessNeverCounts h k = h
 not-in-stack modules service name kind faults items home verdict spot folder start bytes problems.LinkOutside h k = h
+not-in-stack modules service name kind faults items home verdict spot folder start bytes (problems.StoredThoughRefused by) h k = h
+not-in-stack modules service name kind faults items home verdict spot folder start bytes problems.NoFailureCounted h k = h
 not-in-stack modules service name kind faults items home verdict spot folder start bytes (problems.NotCounted counts) h k = h
 not-in-stack modules service name kind faults items home verdict spot folder start bytes (problems.Argument argument wrong) h k = h
 not-in-stack modules service name kind faults items home verdict spot folder start bytes (problems.BadArguments lack) h k = h

@@ -70,6 +70,8 @@ module _ (modules : Modules) (name : List ℕ) (kind : Kind) (rule : ModuleText)
   from-rule file line problems.JumpPastEnd h = absurd h.has
   from-rule file line problems.SuccessNeverCounts h = absurd h.has
   from-rule file line problems.LinkOutside h = absurd h.has
+  from-rule file line (problems.StoredThoughRefused by) h = absurd h.has
+  from-rule file line problems.NoFailureCounted h = absurd h.has
   from-rule file line (problems.NotCounted counts) h = absurd h.has
   from-rule file line (problems.Fault fault) h = absurd h.has
   from-rule file line (problems.Walk fault) h = absurd h.has

@@ -69,6 +69,8 @@ none-by-refused at spot problems.EmptySeparator h = h
 none-by-refused at spot problems.UnknownModule h = h
 none-by-refused at spot problems.LinkOutside h = h
 none-by-refused at spot problems.SuccessNeverCounts h = h.1
+none-by-refused at spot (problems.StoredThoughRefused by) h = h.1
+none-by-refused at spot problems.NoFailureCounted h = h.2
 none-by-refused at spot (problems.NotCounted counts) h = h.1
 
 -- WHAT A STACK MAY ASK

@@ -12,7 +12,7 @@ use Rattle.pam_findings.specs.host.Tokens.{NoneAsksBefore, may_ask_for, takes}
 use Rattle.pam_findings.specs.host.Verdicts.{Judgement}
 use Rattle.pam_findings.specs.host.inner.Looked.{spot_at}
 use Rattle.pam_findings.specs.host.inner.Table.{Adds}
-use Rattle.pam_findings.specs.host.inner.Taking.{AreAsking, Lacks, LacksAt, LacksIn, asks_for_at, lacking_by}
+use Rattle.pam_findings.specs.host.inner.Taking.{AreAsking, Lacks, LacksAt, LacksIn, lacking_by}
 use Rattle.pam_findings.specs.host.inner.WrongArguments.{OfFound}
 use Rattle.pam_findings.specs.stack.Leading.{Leads}
 use Rattle.pam_findings.specs.stack.inner.Leading.{SaysLeads}
@@ -63,18 +63,22 @@ module _ (test : ℕ → Bool) (index : ℕ) (old : List Bool) (so_far : MarkedS
   }
 
 -- past the last module there is none
-none-past : (kind : Kind) (items : Items) (n : ℕ) (o : Option ModuleText) → IsNumbered items → module_count items < n → module_at n items ≡ o →
-    option_map_or (may_ask_for kind) o false ≡ false
-none-past kind items n None is above there = refl
-none-past kind items n (Some rule) is above there =
+none-past : (passes : ModuleText → Bool) (items : Items) (n : ℕ) (o : Option ModuleText) → IsNumbered items → module_count items < n →
+    module_at n items ≡ o → option_map_or passes o false ≡ false
+none-past passes items n None is above there = refl
+none-past passes items n (Some rule) is above there =
     let range = numbered items n rule is there in
     absurd (omega (arith, range.1, above))
 
-pub all-marked : (kind : Kind) (items : Items) (n : ℕ) (marks : List Bool) → IsNumbered items → module_count items ≤ n →
-    MarkedSoFar (asks_for_at kind items) n marks → AreAsking kind items marks
-all-marked kind items n marks is all so_far number low =
+-- whether the rule of the module with a number passes a test
+abbrev pub passes_at : (ModuleText → Bool) → Items → ℕ → Bool
+passes_at passes items number = option_map_or passes (module_at number items) false
+
+pub all-marked : (passes : ModuleText → Bool) (items : Items) (n : ℕ) (marks : List Bool) → IsNumbered items → module_count items ≤ n →
+    MarkedSoFar (passes_at passes items) n marks → (number : ℕ) → 1 ≤ number → mark_of marks number ≡ passes_at passes items number
+all-marked passes items n marks is all so_far number low =
     elim (cases_lt n number) [
-      | inl above ↦ so_far.rest number above ∙ sym (none-past kind items number (module_at number items) is (omega (arith, above, all)) refl)
+      | inl above ↦ so_far.rest number above ∙ sym (none-past passes items number (module_at number items) is (omega (arith, above, all)) refl)
       | inr within ↦ so_far.done number low within
     ]
 
@@ -87,10 +91,10 @@ alone-marked count number new is n low =
 
 -- WHETHER A TOKEN IS ASKED FOR BEFORE
 
-asking-rule : (kind : Kind) (o : Option ModuleText) → option_map_or (may_ask_for kind) o false ≡ true →
-    (rule : ModuleText) × (o ≡ Some rule) × (may_ask_for kind rule ≡ true)
-asking-rule kind None h = absurd (false≢true h)
-asking-rule kind (Some rule) h = (rule, refl, h)
+pub passing-rule : (passes : ModuleText → Bool) (o : Option ModuleText) → option_map_or passes o false ≡ true →
+    (rule : ModuleText) × (o ≡ Some rule) × (passes rule ≡ true)
+passing-rule passes None h = absurd (false≢true h)
+passing-rule passes (Some rule) h = (rule, refl, h)
 
 module _ (kind : Kind) (j : Judgement) (number : ℕ) (asking later : List Bool) (is : IsNumbered j.items) (are : AreAsking kind j.items asking)
     (one : (n : ℕ) → 1 ≤ n → mark_of later n ≡ (n == number)) where
@@ -110,7 +114,7 @@ module _ (kind : Kind) (j : Judgement) (number : ℕ) (asking later : List Bool)
   some-before true says e none =
       let l = says.4 in
       let range = asks-range (may_answer j.free) j.items says.0 is l.asks in
-      let found = asking-rule kind (module_at says.0 j.items) (sym (are says.0 range.0) ∙ says.2) in
+      let found = passing-rule (may_ask_for kind) (module_at says.0 j.items) (sym (are says.0 range.0) ∙ says.2) in
       let at : says.1 ≡ number = eqb-true says.1 number (sym (one says.1 (omega (arith, l.order))) ∙ says.3) in
       none says.0 found.0 found.1 found.2 (subst (Leads (may_answer j.free) j.items all_codes says.0) at l)
 

@@ -8,8 +8,11 @@ use Rattle.pam_findings.specs.host.Faillock.{has_task}
 use Rattle.pam_findings.specs.host.inner.Halves.{HalfIn, HalvesIn}
 use Rattle.pam_findings.specs.host.inner.Looked.{OfModules, VainIn, at_of}
 use Rattle.pam_findings.specs.host.StackProblems.{ByVerdict}
+use Rattle.pam_findings.specs.host.Storing.{stores}
 use Rattle.pam_findings.specs.host.inner.Table.{Adds}
+use Rattle.pam_findings.specs.host.inner.Storing.{StoredIn}
 use Rattle.pam_findings.specs.host.inner.Taking.{LacksIn}
+use Rattle.pam_findings.specs.host.inner.Uncounted.{UncountedIn}
 use Rattle.pam_findings.specs.host.Verdicts.{IsOpen, Judged, Judgement, SaysWhoLogsIn}
 use Rattle.pam_findings.specs.declared.host.judging.Stacked.{Stacked}
 use Rattle.pam_findings.specs.declared.host.problem.Problem.{Problem}
@@ -83,28 +86,36 @@ module _ (at : Stacked) (j : Judgement) (nobody anybody : Bool)
   abbrev Lacking : Spot → Type 0
   Lacking spot = LacksIn at.is_included at.kind j spot
 
+  abbrev Stored : Spot → Type 0
+  Stored spot = StoredIn at.kind j spot
+
+  abbrev Uncounted : Spot → Type 0
+  Uncounted spot = UncountedIn at.is_included at.kind j spot
+
   Parts : Spot → Type 0
   Parts spot =
-      ((((((nobody ≡ true) × (spot ≡ spot_in j.causes.nobody (problems.LetsNobodyIn at.named at.kind)))
+      ((((((((nobody ≡ true) × (spot ≡ spot_in j.causes.nobody (problems.LetsNobodyIn at.named at.kind)))
       ⊎ ((anybody ≡ true) × (spot ≡ spot_in j.causes.anybody (problems.LetsAnybodyIn at.named at.is_greeter))))
       ⊎ OfModules problems.JumpPastEnd j.items (λ number. Member number j.jumps) spot)
       ⊎ Vain spot)
       ⊎ Half spot)
-      ⊎ Lacking spot
+      ⊎ Lacking spot)
+      ⊎ Stored spot)
+      ⊎ Uncounted spot
 
   to-verdict : (spot : Spot) → Parts spot → By spot spot.problem
   unfolding By Parts
-  to-verdict spot (inl (inl (inl (inl (inl h))))) =
+  to-verdict spot (inl (inl (inl (inl (inl (inl (inl h))))))) =
       let k = says_nobody.0 h.0 in
       subst (λ (s : Spot). By s s.problem) (sym h.1) (refl, refl, (refl, refl), (k.0, k.1), k.2)
-  to-verdict spot (inl (inl (inl (inl (inr h))))) =
+  to-verdict spot (inl (inl (inl (inl (inl (inl (inr h))))))) =
       let k = says_anybody.0 h.0 in
       subst (λ (s : Spot). By s s.problem) (sym h.1) (refl, k.0, (refl, refl), k.1, k.2, refl)
-  to-verdict spot (inl (inl (inl (inr m)))) = subst (By spot) (sym m.of.problem_is) (m.number, m.of.rule, m.of.at, m.one)
-  to-verdict spot (inl (inl (inr v))) =
+  to-verdict spot (inl (inl (inl (inl (inl (inr m)))))) = subst (By spot) (sym m.of.problem_is) (m.number, m.of.rule, m.of.at, m.one)
+  to-verdict spot (inl (inl (inl (inl (inr v))))) =
       let m = v.of in
       subst (By spot) (sym m.of.problem_is) (v.auth, (v.somebody, (m.number, m.of.rule, m.of.at, m.one)))
-  to-verdict spot (inl (inr v)) =
+  to-verdict spot (inl (inl (inl (inr v)))) =
       let m = v.half.of in
       subst (By spot) (sym m.of.problem_is) (
         v.auth,
@@ -115,33 +126,51 @@ module _ (at : Stacked) (j : Judgement) (nobody anybody : Bool)
           (sym (ap (λ o. option_map_or (has_task v.counts) o false) m.of.at.is_there) ∙ m.one, v.half.none),
         ),
       )
-  to-verdict spot (inr v) = subst (By spot) (sym v.problem_is) (refl, v.alone, v.has)
+  to-verdict spot (inl (inl (inr v))) = subst (By spot) (sym v.problem_is) (refl, v.alone, v.has)
+  to-verdict spot (inl (inr v)) =
+      let m = v.of in
+      subst (By spot) (sym m.of.problem_is) (
+        v.password,
+        (m.number, m.of.rule, m.of.at, (sym (ap (λ o. option_map_or stores o false) m.of.at.is_there) ∙ m.one.stores, m.one.fails)),
+      )
+  to-verdict spot (inr v) =
+      let m = v.of in
+      subst (By spot) (sym m.of.problem_is) (
+        v.auth,
+        v.alone,
+        (
+          m.number,
+          m.of.rule,
+          m.of.at,
+          (sym (ap (λ o. option_map_or (has_task true) o false) m.of.at.is_there) ∙ m.one.counts, m.one.asked, m.one.none),
+        ),
+      )
 
   from-verdict : (file : Option ℕ) (line : ℕ) (problem : Problem) →
       (let spot : Spot = record { file = file; line = line; problem = problem } in By spot problem → Parts spot)
   unfolding By Parts
   from-verdict file line (problems.LetsNobodyIn service kind) h =
-      inl (inl (inl (inl (inl (
+      inl (inl (inl (inl (inl (inl (inl (
         says_nobody.1 (h.3.0, h.3.1, h.4),
         same-spot _ _ h.2.0 h.2.1 (ap (λ s. problems.LetsNobodyIn s kind) h.0 ∙ ap (problems.LetsNobodyIn at.named) h.1),
-      )))))
+      )))))))
   from-verdict file line (problems.LetsAnybodyIn service is_greeter) h =
-      inl (inl (inl (inl (inr (
+      inl (inl (inl (inl (inl (inl (inr (
         says_anybody.1 (h.1, h.3, h.4),
         same-spot _ _ h.2.0 h.2.1 (ap (λ s. problems.LetsAnybodyIn s is_greeter) h.0 ∙ ap (problems.LetsAnybodyIn at.named) h.5),
-      )))))
+      )))))))
   from-verdict file line problems.JumpPastEnd h =
-      inl (inl (inl (inr record { number = h.0; one = h.3; of = record { problem_is = refl; rule = h.1; at = h.2 } })))
+      inl (inl (inl (inl (inl (inr record { number = h.0; one = h.3; of = record { problem_is = refl; rule = h.1; at = h.2 } })))))
   from-verdict file line problems.SuccessNeverCounts h =
       let m = h.1.1 in
-      inl (inl (inr record {
+      inl (inl (inl (inl (inr record {
         auth = h.0;
         somebody = h.1.0;
         of = record { number = m.0; one = m.3; of = record { problem_is = refl; rule = m.1; at = m.2 } };
-      }))
+      }))))
   from-verdict file line (problems.NotCounted counts) h =
       let m = h.1 in
-      inl (inr record {
+      inl (inl (inl (inr record {
         auth = h.0;
         counts = counts;
         half = record {
@@ -152,9 +181,31 @@ module _ (at : Stacked) (j : Judgement) (nobody anybody : Bool)
             of = record { problem_is = refl; rule = m.1; at = m.2 };
           };
         };
-      })
+      })))
   from-verdict file line (problems.Argument argument wrong) h =
-      inr record { alone = h.1; argument = argument; problem_is = ap (problems.Argument argument) h.0; has = h.2 }
+      inl (inl (inr record { alone = h.1; argument = argument; problem_is = ap (problems.Argument argument) h.0; has = h.2 }))
+  from-verdict file line (problems.StoredThoughRefused by) h =
+      let m = h.1 in
+      inl (inr record {
+        password = h.0;
+        by = by;
+        of = record {
+          number = m.0;
+          one = record { stores = ap (λ o. option_map_or stores o false) m.2.is_there ∙ m.3.0; fails = m.3.1 };
+          of = record { problem_is = refl; rule = m.1; at = m.2 };
+        };
+      })
+  from-verdict file line problems.NoFailureCounted h =
+      let m = h.2 in
+      inr record {
+        alone = h.1;
+        auth = h.0;
+        of = record {
+          number = m.0;
+          one = record { counts = ap (λ o. option_map_or (has_task true) o false) m.2.is_there ∙ m.3.0; asked = m.3.1; none = m.3.2 };
+          of = record { problem_is = refl; rule = m.1; at = m.2 };
+        };
+      }
   from-verdict file line (problems.TooLarge service kind) h = absurd cc
   from-verdict file line (problems.OtherAnswers service kind has_no_rule lets_nobody_in) h = absurd h
   from-verdict file line (problems.Fault fault) h = absurd h
@@ -174,23 +225,27 @@ module _ (at : Stacked) (j : Judgement) (nobody anybody : Bool)
   from-verdict file line problems.UnknownModule h = absurd h
   from-verdict file line problems.LinkOutside h = absurd h
 
-  pub adds-judged : (old first second third fourth fifth new : List Spot) →
+  pub adds-judged : (old first second third fourth fifth sixth seventh new : List Spot) →
       Adds (λ spot. (nobody ≡ true) × (spot ≡ spot_in j.causes.nobody (problems.LetsNobodyIn at.named at.kind))) old first →
       Adds (λ spot. (anybody ≡ true) × (spot ≡ spot_in j.causes.anybody (problems.LetsAnybodyIn at.named at.is_greeter))) first second →
       Adds (OfModules problems.JumpPastEnd j.items (λ number. Member number j.jumps)) second third →
       Adds (VainIn at.kind j) third fourth →
       Adds (HalvesIn at.kind j) fourth fifth →
-      Adds (LacksIn at.is_included at.kind j) fifth new →
+      Adds (LacksIn at.is_included at.kind j) fifth sixth →
+      Adds (StoredIn at.kind j) sixth seventh →
+      Adds (UncountedIn at.is_included at.kind j) seventh new →
       Adds (λ spot. ByVerdict (at_of at) (Judged j) spot spot.problem) old new
   unfolding By Parts
-  adds-judged old first second third fourth fifth new a b c d e f =
+  adds-judged old first second third fourth fifth sixth seventh new a b c d e f g i =
       let A : Spot → Type 0 = λ spot. (nobody ≡ true) × (spot ≡ spot_in j.causes.nobody (problems.LetsNobodyIn at.named at.kind)) in
       let B : Spot → Type 0 = λ spot. (anybody ≡ true) × (spot ≡ spot_in j.causes.anybody (problems.LetsAnybodyIn at.named at.is_greeter)) in
       let C : Spot → Type 0 = OfModules problems.JumpPastEnd j.items (λ number. Member number j.jumps) in
-      adds-iff (λ spot. ((((A spot ⊎ B spot) ⊎ C spot) ⊎ Vain spot) ⊎ Half spot) ⊎ Lacking spot)
+      adds-iff (λ spot. ((((((A spot ⊎ B spot) ⊎ C spot) ⊎ Vain spot) ⊎ Half spot) ⊎ Lacking spot) ⊎ Stored spot) ⊎ Uncounted spot)
       (λ spot. ByVerdict (at_of at) (Judged j) spot spot.problem) old new
       (λ spot. (to-verdict spot, from-verdict spot.file spot.line spot.problem))
-      (adds-both (λ spot. (((A spot ⊎ B spot) ⊎ C spot) ⊎ Vain spot) ⊎ Half spot) Lacking old fifth new
+      (adds-both (λ spot. (((((A spot ⊎ B spot) ⊎ C spot) ⊎ Vain spot) ⊎ Half spot) ⊎ Lacking spot) ⊎ Stored spot) Uncounted old seventh new
+      (adds-both (λ spot. ((((A spot ⊎ B spot) ⊎ C spot) ⊎ Vain spot) ⊎ Half spot) ⊎ Lacking spot) Stored old sixth seventh
+      (adds-both (λ spot. (((A spot ⊎ B spot) ⊎ C spot) ⊎ Vain spot) ⊎ Half spot) Lacking old fifth sixth
       (adds-both (λ spot. ((A spot ⊎ B spot) ⊎ C spot) ⊎ Vain spot) Half old fourth fifth
       (adds-both (λ spot. (A spot ⊎ B spot) ⊎ C spot) Vain old third fourth
-      (adds-both (λ spot. A spot ⊎ B spot) C old second third (adds-both A B old first second a b) c) d) e) f)
+      (adds-both (λ spot. A spot ⊎ B spot) C old second third (adds-both A B old first second a b) c) d) e) f) g) i)

@@ -4,7 +4,10 @@ use Rattle.std.specs.Option.{option_map_or}
 use Rattle.std.specs.Str.{bytes_eq}
 use Rattle.pam_conf.specs.Stack.{ModuleText, module_at}
 use Rattle.pam_facts.specs.Paths.{module_name}
-use Rattle.pam_findings.specs.host.Verdicts.{Judgement}
+use Rattle.pam_paths.specs.Known.{may_answer}
+use Rattle.pam_findings.specs.host.Storing.{failures}
+use Rattle.pam_findings.specs.host.Verdicts.{Judgement, SaysWhoLogsIn}
+use Rattle.pam_findings.specs.stack.Leading.{Leads}
 use Rattle.pam_text.specs.Members.{Member}
 
 -- the words that say what a rule of the module is for
@@ -34,3 +37,7 @@ NoneWith j counts = (number : ℕ) (rule : ModuleText) → module_at number j.it
 -- S22: a rule has one of the tasks, and no run asks a module with the other one
 abbrev pub IsHalf : Judgement → Bool → ModuleText → Type 0
 IsHalf j counts rule = (has_task counts rule ≡ true) × NoneWith j (not counts)
+
+-- no run asks the module with this number after a module that says who logs in, or never succeeds, and that failed
+abbrev pub NoneFailsBefore : Judgement → ℕ → Type 0
+NoneFailsBefore j number = (first : ℕ) → SaysWhoLogsIn j.failing first → Leads (may_answer j.free) j.items failures first number → ⊥

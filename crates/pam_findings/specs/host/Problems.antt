@@ -20,6 +20,8 @@ use Rattle.pam_findings.specs.declared.host.problem.Place.{Place}
 use Rattle.pam_findings.specs.declared.host.problem.Problem.{Problem}
 use Rattle.pam_findings.specs.declared.host.problem.Problem.TheVariants as problems
 use Rattle.pam_findings.specs.declared.host.problem.Spot.{Spot}
+use Rattle.pam_findings.specs.declared.host.refusing.Refuser.{Refuser}
+use Rattle.pam_findings.specs.declared.host.refusing.Refuser.TheVariants as refusers
 
 abbrev pub rank_of_control : ControlError → ℕ
 rank_of_control BadControl = 4
@@ -75,7 +77,9 @@ rank_of problems.NoFunction = 73
 rank_of (problems.CallerIsRoot is_daemon) = 74
 rank_of (problems.Argument argument wrong) = rank_of_argument wrong
 rank_of (problems.BadArguments lack) = 79
+rank_of (problems.StoredThoughRefused by) = 81
 rank_of (problems.NotCounted counts) = 82
+rank_of problems.NoFailureCounted = 82
 rank_of problems.UnknownModule = 85
 rank_of problems.SuccessNeverCounts = 86
 rank_of problems.LinkOutside = 87
@@ -116,6 +120,12 @@ number_of_lack lacks.Database = 2
 number_of_lack lacks.UserType = 3
 number_of_lack lacks.Condition = 4
 
+abbrev pub number_of_refuser : Refuser → ℕ
+number_of_refuser refusers.Cracklib = 0
+number_of_refuser refusers.Passwdqc = 1
+number_of_refuser refusers.Pwhistory = 2
+number_of_refuser refusers.Pwquality = 3
+
 -- the service of a problem that names one, and the position of an argument
 abbrev pub service_of : Problem → ℕ
 service_of (problems.LetsNobodyIn service kind) = unwrap_or service 0
@@ -127,8 +137,9 @@ service_of problem = 0
 
 -- the number of its kind, in S10 with what tells of `other`; L10 of an `@include` has another one than that of a rule with a kind, S1 and
 -- S2 with a service than those without, S2 of a greeter than that of another service, S5 of a dashed rule than that of a rule without a
--- dash, S14 of a daemon than that of another service, S22 of a rule that counts than that of another, S15 has one for what the module
--- does, and S19 one for what is lacking
+-- dash, S14 of a daemon than that of another service, S22 of a rule that counts than that of another, and of one that counts after no
+-- failure, S15 has one for what the module
+-- does, S19 one for what is lacking, and S21 one for the module that refuses
 abbrev pub kind_of : Problem → ℕ
 kind_of (problems.LetsNobodyIn service kind) = number_of_nobody service kind
 kind_of (problems.LetsAnybodyIn service is_greeter) = number_of_anybody service is_greeter
@@ -137,7 +148,9 @@ kind_of (problems.OtherAnswers service kind has_no_rule lets_nobody_in) = number
 kind_of (problems.IncludedFromVendor is_at_include) = if is_at_include then 1 else 0
 kind_of (problems.NoModule is_dashed) = if is_dashed then 1 else 0
 kind_of (problems.CallerIsRoot is_daemon) = if is_daemon then 1 else 0
+kind_of (problems.StoredThoughRefused by) = number_of_refuser by
 kind_of (problems.NotCounted counts) = if counts then 1 else 0
+kind_of problems.NoFailureCounted = 2
 kind_of (problems.Argument argument wrong) = reaction_of wrong
 kind_of (problems.BadArguments lack) = number_of_lack lack
 kind_of problem = 0

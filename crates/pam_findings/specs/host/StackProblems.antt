@@ -10,16 +10,17 @@ use Rattle.pam_conf.specs.declared.conf_error.ConfError.{ConfError}
 use Rattle.pam_conf.specs.declared.rule.Form.{Form}
 use Rattle.pam_conf.specs.declared.rule.Form.TheVariants.{Dir, Single}
 use Rattle.pam_conf.specs.declared.rule.Kind.{Kind}
-use Rattle.pam_conf.specs.declared.rule.Kind.TheVariants.{Auth}
+use Rattle.pam_conf.specs.declared.rule.Kind.TheVariants.{Auth, Password}
 use Rattle.pam_text.specs.Members.{Member}
 use Rattle.pam_paths.specs.Known.{may_answer}
 use Rattle.pam_paths.specs.Paths.{PathValue}
 use Rattle.pam_findings.specs.host.Arguments.{lack_in, wrong_argument}
 use Rattle.pam_findings.specs.host.Callers.{caller_is_root, is_daemon_service, is_greeter}
-use Rattle.pam_findings.specs.host.Faillock.{IsHalf}
+use Rattle.pam_findings.specs.host.Faillock.{IsHalf, NoneFailsBefore, has_task}
 use Rattle.pam_findings.specs.host.Modules.{Modules}
 use Rattle.pam_findings.specs.host.OtherAnswers.{is_only_included}
 use Rattle.pam_findings.specs.host.Separators.{lacks_separator}
+use Rattle.pam_findings.specs.host.Storing.{FailsBefore, stores}
 use Rattle.pam_findings.specs.host.Tokens.{NoneAsksBefore, takes_at}
 use Rattle.pam_findings.specs.host.UnknownModules.{IsUnknown}
 use Rattle.pam_findings.specs.host.Verdicts.{Judged, Judgement, LetsNobody, Refused, SaysWhoLogsIn, TooLarge, Verdict}
@@ -28,6 +29,7 @@ use Rattle.pam_findings.specs.declared.host.problem.ArgumentProblem.TheVariants.
 use Rattle.pam_findings.specs.declared.host.problem.Problem.{Problem}
 use Rattle.pam_findings.specs.declared.host.problem.Problem.TheVariants as problems
 use Rattle.pam_findings.specs.declared.host.problem.Spot.{Spot}
+use Rattle.pam_findings.specs.declared.host.refusing.Refuser.{Refuser}
 use Rattle.pam_findings.specs.declared.host.way_in.WayIn.{WayIn}
 
 -- FAULTS OF THE WALK
@@ -111,11 +113,26 @@ TakesNone kind TooLarge argument spot = ⊥
 TakesNone kind (Judged j) argument spot = HasModule j.items spot
     (λ number rule. (takes_at kind rule argument ≡ true) × (Member number j.never_asked → ⊥) × NoneAsksBefore kind j number)
 
+-- S21: a module stores a new password, for which it asks itself where it has to, and in some run this one has failed before, which checks
+-- new passwords
+abbrev pub StoresRefused : Verdict → Refuser → Spot → Type 0
+StoresRefused Refused by spot = ⊥
+StoresRefused TooLarge by spot = ⊥
+StoresRefused (Judged j) by spot = HasModule j.items spot (λ number rule. (stores rule ≡ true) × FailsBefore by j number)
+
 -- S22: a rule of pam_faillock counts failures, or refuses who failed too often, and no run asks one that does the other
 abbrev pub CountsInVain : Verdict → Bool → Spot → Type 0
 CountsInVain Refused counts spot = ⊥
 CountsInVain TooLarge counts spot = ⊥
 CountsInVain (Judged j) counts spot = HasModule j.items spot (λ number rule. IsHalf j counts rule)
+
+-- S22, but of a file that others include, which may ask modules before it: some run asks a rule of pam_faillock that counts failures, and
+-- none asks it after a module that says who logs in failed
+abbrev pub CountsNoFailure : Verdict → Spot → Type 0
+CountsNoFailure Refused spot = ⊥
+CountsNoFailure TooLarge spot = ⊥
+CountsNoFailure (Judged j) spot =
+    HasModule j.items spot (λ number rule. (has_task true rule ≡ true) × (Member number j.never_asked → ⊥) × NoneFailsBefore j number)
 
 -- BY THE VERDICT on the stack of a service for a kind, where a whole stack is at line 0 of the file of its first rules, and S1 and S2 are
 -- at line 0 of their cause
@@ -152,7 +169,7 @@ stack_at folder service name kind survey = record {
 abbrev pub IsHome : Option ℕ → Spot → Type 0
 IsHome home spot = (spot.file ≡ home) × (spot.line ≡ 0)
 
--- S1, S2, S4, S9, S20, S22 and S26
+-- S1, S2, S4, S9, S20 to S22 and S26
 abbrev pub ByVerdict : StackAt → Verdict → Spot → Problem → Type 0
 ByVerdict at verdict spot (problems.LetsNobodyIn of_service of_kind) =
     (of_service ≡ at.named) × (of_kind ≡ at.kind) × IsHome (causes_of verdict).nobody spot × LetsNobody at.kind verdict × (at.is_only_included ≡ false)
@@ -165,7 +182,9 @@ ByVerdict at verdict spot problems.JumpPastEnd = Jumps verdict spot
 ByVerdict at verdict spot problems.SuccessNeverCounts = (at.kind ≡ Auth) × SucceedsInVain verdict spot
 ByVerdict at verdict spot (problems.Argument argument wrong) =
     (wrong ≡ NoToken) × (at.is_included ≡ false) × TakesNone at.kind verdict argument spot
+ByVerdict at verdict spot (problems.StoredThoughRefused by) = (at.kind ≡ Password) × StoresRefused verdict by spot
 ByVerdict at verdict spot (problems.NotCounted counts) = (at.kind ≡ Auth) × CountsInVain verdict counts spot
+ByVerdict at verdict spot problems.NoFailureCounted = (at.kind ≡ Auth) × (at.is_included ≡ false) × CountsNoFailure verdict spot
 ByVerdict at verdict spot problem = ⊥
 
 -- A PROBLEM OF A STACK itself, by the survey of a service and the verdict

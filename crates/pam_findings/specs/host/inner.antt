@@ -12,6 +12,8 @@ pub mod Meeting
 pub mod OfFolder
 pub mod Own
 pub mod SoFar
+pub mod Storing
 pub mod Table
 pub mod Taking
+pub mod Uncounted
 pub mod WrongArguments

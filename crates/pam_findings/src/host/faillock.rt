@@ -79,7 +79,12 @@ fn has_task_at(stack: &Stack, counts: bool, number: usize) -> bool
 }
 
 /// Whether the module with this number has the task, and is none of these.
-fn is_asked_with(stack: &Stack, never_asked: &[usize], counts: bool, number: usize) -> bool
+pub(crate) fn is_asked_with(
+    stack: &Stack,
+    never_asked: &[usize],
+    counts: bool,
+    number: usize,
+) -> bool
     ensures yes { IsTrue result → HasTaskAt stack.now counts number × (Member number never_asked.now → ⊥) }
     ensures no { IsFalse result → HasTaskAt stack.now counts number → Member number never_asked.now }
 {

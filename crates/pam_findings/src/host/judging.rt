@@ -18,7 +18,9 @@ use crate::host::closed::begins_closed;
 use crate::host::faillock::push_half;
 use crate::host::modules::{has_other, push_asked, push_jumps, push_never_counting};
 use crate::host::problem::{Problem, Spot};
+use crate::host::storing::push_stored;
 use crate::host::taking::push_taking;
+use crate::host::uncounted::push_uncounted;
 use crate::host::way_in::{WayIn, answers_on};
 use crate::stack::Soundness;
 use pam_conf::{Kind, Stack};
@@ -159,7 +161,7 @@ fn push_halves(
     Ok(())
 }
 
-/// Appends S1, S2, S4, S20, S22 and S26 of a stack.
+/// Appends S1, S2, S4, S20 to S22 and S26 of a stack.
 fn push_judged(spots: &mut Vec<Spot>, at: Stacked, of: &Judging<'_>) -> Result<(), AllocError>
     requires { HasGraph of.now }
     ensures { OnOk result (Adds (λ spot. ByVerdict (at_of at) (Judged (judgement_in of.now)) spot spot.problem) spots.old.items spots.new.items) }
@@ -189,6 +191,8 @@ fn push_judged(spots: &mut Vec<Spot>, at: Stacked, of: &Judging<'_>) -> Result<(
     push_vain(spots, at.kind, of.stack, of.failing, soundness)?;
     push_halves(spots, at.kind, of.stack, soundness)?;
     push_taking(spots, of, at.kind, at.is_included)?;
+    push_stored(spots, of, at.kind)?;
+    push_uncounted(spots, of, at.kind, at.is_included)?;
     Ok(())
 }
 

@@ -93,7 +93,9 @@ impl Problem {
             | Problem::UnreachableName
             | Problem::TooLarge { .. }
             | Problem::OtherAnswers { .. }
+            | Problem::StoredThoughRefused { .. }
             | Problem::NotCounted { .. }
+            | Problem::NoFailureCounted
             | Problem::NoFunction => Level::Warning,
         }
     }

@@ -134,7 +134,7 @@ pub(crate) fn push_jumps(
 }
 
 /// Whether a module may succeed.
-fn may_succeed(known: &Known, number: usize) -> bool
+pub(crate) fn may_succeed(known: &Known, number: usize) -> bool
     ensures { result ≡ may_answer known.now number success }
 {
     known.allowed(number).contains(Code::SUCCESS)

@@ -2,9 +2,10 @@
 
 ghost use Rattle.std.specs.Prelude.{◌≡◌, ◌≤◌};
 ghost use Rattle.pam_findings.specs.host.Problems.{kind_of, number_of_answer, number_of_anybody, number_of_kind, number_of_lack, number_of_nobody};
-ghost use Rattle.pam_findings.specs.host.Problems.{number_of_reaction, place_of, rank_of};
+ghost use Rattle.pam_findings.specs.host.Problems.{number_of_reaction, number_of_refuser, place_of, rank_of};
 ghost use Rattle.pam_findings.specs.host.Problems.{rank_of_argument, rank_of_control, rank_of_fault, reaction_of, service_of};
 
+use crate::host::refusing::Refuser;
 use pam_arguments::{Lack, Reaction};
 use pam_codes::ControlError;
 use pam_conf::{FaultKind, Kind};
@@ -70,7 +71,7 @@ pub enum Problem {
     NoOther,
     /// S7: the name of a file has a capital letter, but services are looked up in lowercase, and no rule includes the file.
     UnreachableName,
-    /// S9: the graph of a stack has more nodes than the limit, so S1 to S4, S20, S22 and S26 are not known for it.
+    /// S9: the graph of a stack has more nodes than the limit, so S1 to S4, S20 to S22 and S26 are not known for it.
     TooLarge {
         /// The position of the service in `HostReport::services`.
         service: usize,
@@ -107,11 +108,17 @@ pub enum Problem {
     },
     /// S19: the arguments lack something as a whole, so the module cannot do what it is for.
     BadArguments(Lack),
+    /// S21: in some run a module that checks new passwords fails, and this one then asks for another one itself, and stores it.
+    StoredThoughRefused {
+        by: Refuser,
+    },
     /// S22: a rule of pam_faillock counts failures, or refuses who failed too often, and no run asks one that does the other.
     NotCounted {
         /// Whether the rule counts failures.
         counts: bool,
     },
+    /// S22: a rule of pam_faillock counts failures, and is asked, but in no run after a module that says who logs in failed.
+    NoFailureCounted,
     /// S25: nothing is known of a module of an `auth` stack, so it is taken for one that checks who logs in.
     UnknownModule,
     /// S26: the success of a module that says who logs in never makes an `auth` stack succeed, though others let somebody in.
@@ -141,10 +148,11 @@ pub struct Place {
     pub rank: u8,
     /// The service of a problem that names one, and the position of an argument; else 0.
     pub service: usize,
-    /// The number of the kind of a problem that names one, which for S10 also tells why and how `other` answers, and for S1 whether a
-    /// service is named; for S2 the number of whether a service is named and whether it is a greeter; 1 for L10 of an `@include`, for S5
-    /// of a dashed rule, for S14 of a daemon and for S22 of a rule that counts; for S15 the number of what the module does, and for S19 of
-    /// what is lacking; else 0.
+    /// The number of the kind of a problem that names one, which for S10 also tells why and how `other` answers, and for S1
+    /// whether a service is named; for S2 the number of whether a service is named and whether it is a greeter; 1 for L10 of an
+    /// `@include`, for S5 of a dashed rule, for S14 of a daemon and for S22 of a rule that counts, and 2 for one that counts
+    /// after no failure; for S15 the number of what the module does, for S19 of what is lacking, and for S21 of the module that
+    /// refuses; else 0.
     pub kind: u8,
 }
 
@@ -244,6 +252,17 @@ fn number_of_lack(lack: Lack) -> u8
     }
 }
 
+fn number_of_refuser(by: Refuser) -> u8
+    ensures { result ≡ number_of_refuser by }
+{
+    match by {
+        Refuser::Cracklib => 0,
+        Refuser::Passwdqc => 1,
+        Refuser::Pwhistory => 2,
+        Refuser::Pwquality => 3,
+    }
+}
+
 /// What the module does, by its number, where it does not know an argument; else 0.
 fn reaction_of(wrong: ArgumentProblem) -> u8
     ensures { result ≡ reaction_of wrong }
@@ -297,7 +316,8 @@ impl Problem {
             Problem::CallerIsRoot { .. } => 74,
             Problem::Argument { wrong, .. } => rank_of_argument(wrong),
             Problem::BadArguments(_) => 79,
-            Problem::NotCounted { .. } => 82,
+            Problem::StoredThoughRefused { .. } => 81,
+            Problem::NotCounted { .. } | Problem::NoFailureCounted => 82,
             Problem::UnknownModule => 85,
             Problem::SuccessNeverCounts => 86,
             Problem::LinkOutside => 87,
@@ -329,7 +349,9 @@ impl Problem {
             Problem::CallerIsRoot { is_daemon } => (0, u8::from(is_daemon)),
             Problem::Argument { argument, wrong } => (argument, reaction_of(wrong)),
             Problem::BadArguments(lack) => (0, number_of_lack(lack)),
+            Problem::StoredThoughRefused { by } => (0, number_of_refuser(by)),
             Problem::NotCounted { counts } => (0, u8::from(counts)),
+            Problem::NoFailureCounted => (0, 2),
             Problem::Fault(_)
             | Problem::Walk(_)
             | Problem::Released(_)

@@ -46,7 +46,7 @@ fn asking(kind: Kind, stack: &Stack) -> Marks
 }
 
 /// Marks the module with this number alone.
-fn alone(number: usize) -> Marks
+pub(crate) fn alone(number: usize) -> Marks
     requires first { 1 ≤ number }
     requires last { number ≤ MAX_MODULES }
     ensures { (n : ℕ) → 1 ≤ n → mark_of result n ≡ (n == number) }

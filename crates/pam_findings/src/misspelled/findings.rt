@@ -38,7 +38,9 @@ fn wrong_of(problem: Problem) -> Option<Wrong>
         | Problem::NoFunction
         | Problem::CallerIsRoot { .. }
         | Problem::BadArguments(_)
+        | Problem::StoredThoughRefused { .. }
         | Problem::NotCounted { .. }
+        | Problem::NoFailureCounted
         | Problem::UnknownModule
         | Problem::SuccessNeverCounts
         | Problem::LinkOutside => None,

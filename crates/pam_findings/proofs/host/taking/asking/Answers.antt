@@ -1,4 +1,5 @@
 use Rattle.std.proofs.Common.{◌∙◌, arith, sym}
+use Rattle.pam_findings.specs.host.Tokens.{may_ask_for}
 use Rattle.pam_findings.specs.host.inner.Taking.{asks_for_at}
 use Rattle.pam_findings.proofs.HostProofs.Tokens.{all-marked, none-so-far, one-marked, one-not-marked}
 use Rattle.pam_findings.proofs.host.taking.asking.Goals.{else-asks_for_at, then-asks_for_at}
@@ -20,5 +21,5 @@ loop-index-preserved c =
 
 pub returns : goal.returns
 returns c =
-    all-marked c.args.kind c.args.stack.now c.loop-index.index c.loop-index.marks c.items-items.ensures.numbered
+    all-marked (may_ask_for c.args.kind) c.args.stack.now c.loop-index.index c.loop-index.marks c.items-items.ensures.numbered
     (omega (arith, c.modules-index-end.ensures.count)) c.loop-index.invariant
