@@ -153,7 +153,7 @@ place_of files fault = []
 
 -- the name as given on the command line, or that of an entry of the folder
 abbrev pub input_place : InputError → List ℕ
-input_place (inputs.Read name) = concat (codes " " ∷ string_bytes name ∷ [])
+input_place (inputs.Read name why) = concat (codes " " ∷ string_bytes name ∷ [])
 input_place inputs.Memory = []
 
 -- ---- lines and statuses

@@ -180,7 +180,7 @@ moment_row moment.Syntax = row (codes "M4 Syntax") 4
 -- ---- reads and writes
 
 abbrev pub input_row : InputError → Row
-input_row (inputs.Read name) = row (codes "V1 Read") 5
+input_row (inputs.Read name why) = row (codes "V1 Read") 5
 input_row inputs.Memory = memory_row
 
 abbrev pub write_row : Row

@@ -13,6 +13,7 @@ pub mod Inputs
 pub mod KnownStack
 pub mod Laws
 pub mod Memory
+pub mod Mistakes
 pub mod Moments
 pub mod Names
 pub mod Needs
@@ -30,4 +31,5 @@ pub mod Settings
 pub mod Show
 pub mod TablePaths
 pub mod TooLarge
+pub mod Unread
 pub mod inner

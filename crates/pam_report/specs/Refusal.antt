@@ -12,12 +12,13 @@ use Rattle.pam_spelling.specs.Nearest.{nearest}
 use Rattle.pam_words.specs.declared.wanted.ConfSource.{ConfSource}
 use Rattle.pam_words.specs.declared.wanted.ConfSource.TheVariants.{Dir, Over, Conf, Root}
 use Rattle.pam_words.specs.declared.wanted.Task.{Task}
-use Rattle.pam_words.specs.declared.wanted.Task.TheVariants.{Check, Compare, Outcomes, Graph, Needs, Policy}
+use Rattle.pam_words.specs.declared.wanted.Task.TheVariants.{Check, Compare, Explain, Outcomes, Graph, Needs, Policy}
 use Rattle.pam_report.specs.Candidates.{CandidateText, first_unused}
 use Rattle.pam_report.specs.Compare.{side_of}
 use Rattle.pam_report.specs.Fault.{fault_line, line_of, line_place, policy_place}
-use Rattle.pam_report.specs.FaultTable.{candidate_row, policy_row, service_row}
+use Rattle.pam_report.specs.FaultTable.{candidate_row, number_row, policy_row, service_row}
 use Rattle.pam_report.specs.Inputs.{files_given, new_given, no_files, old_given}
+use Rattle.pam_report.specs.Mistakes.{hint, number_text}
 use Rattle.pam_report.specs.Services.{has_service}
 use Rattle.pam_report.specs.declared.fault.policies.PolicyFileError.{PolicyFileError}
 use Rattle.pam_report.specs.declared.fault.Fault.{Fault}
@@ -32,11 +33,6 @@ names_in Single files = services_in Single files
 -- the nearest of them
 abbrev pub nearest_in : Folder → List ℕ → Option (List ℕ)
 nearest_in folder name = nearest (names_in folder.form folder.entries) (map to_ascii_lowercase name)
-
--- `; did you mean "NAME"?`, if there is one
-abbrev pub hint : Option (List ℕ) → List ℕ
-hint None = []
-hint (Some name) = concat (codes "; did you mean \"" ∷ name ∷ codes "\"?" ∷ [])
 
 -- where there is no file or rule: a source as it is named, or in a system the folder or the file
 abbrev pub place_in : ConfSource → Form → List ℕ
@@ -133,12 +129,18 @@ abbrev pub place_of_policy : Task → PolicyFileError → List ℕ
 place_of_policy (Policy source names fail_on knowledge) e = place_in_policy (map (λ n. n.now) names.items) e
 place_of_policy task e = policy_place e
 
--- THE LINE of a fault of a request: what U18 says of the name, and U19 of the candidate, that of a policy with its name, and of others the
--- line of the fault
+-- what is said of the number that is to be explained
+abbrev pub number_said : Task → List ℕ
+number_said (Explain number) = option_map_or number_text (option_copied number) []
+number_said task = []
+
+-- THE LINE of a fault of a request: what U18 says of the name, U19 of the candidate, and U14 of the number, that of a policy with its name,
+-- and of others the line of the fault
 abbrev pub refusal_line : List ℕ → List CandidateText → Task → Inputs → Fault → List ℕ
 refusal_line service candidates task inputs faults.NoSuchService =
     line_of service_row (unknown_text service task (unwrap_or (files_given inputs) no_files) inputs)
 refusal_line service candidates task inputs faults.UnusedCandidate =
     line_of candidate_row (unused_of candidates task (unwrap_or (files_given inputs) no_files))
+refusal_line service candidates task inputs faults.NoSuchNumber = line_of number_row (number_said task)
 refusal_line service candidates task inputs (faults.Policy e) = line_of (policy_row e.error.fault) (place_of_policy task e)
 refusal_line service candidates task inputs fault = fault_line (unwrap_or (files_given inputs) no_files) fault

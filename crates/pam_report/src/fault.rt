@@ -7,13 +7,17 @@ ghost use Rattle.pam_report.specs.Fault.{IsNumbered};
 ghost use Rattle.pam_report.specs.FaultTable.{conf_row as conf_fault_row, table_row as table_fault_row, time_row as time_fault_row};
 ghost use Rattle.pam_report.specs.inner.FaultViews.{row_view};
 
+mod mistakes;
+mod naming;
 mod place;
 mod policies;
 mod refusal;
 mod row;
 mod table;
+mod unread;
 
 use crate::inputs::InputError;
+pub use mistakes::mistaken_text;
 use pam_codes::Piece;
 use pam_conf::{ConfError, FaultKind, Files};
 use pam_dispatch::WrongCount;
@@ -36,6 +40,7 @@ use table::{
     time_row, usage_row, write_row,
 };
 use thiserror::Error;
+pub use unread::input_sentence;
 
 /// Why a request has no answer.
 #[derive(Clone, Copy, Debug, PartialEq, Eq, Error)]
@@ -335,7 +340,7 @@ pub fn input_text(alloc: Global, error: &InputError) -> Result<Vec<u8>, AllocErr
 {
     let row = input_row(error);
     match error {
-        InputError::Read(name) => line(
+        InputError::Read(name, _) => line(
             alloc,
             row,
             &[Piece::Bytes(b" "), Piece::Bytes(name.as_bytes())],

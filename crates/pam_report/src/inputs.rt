@@ -12,12 +12,28 @@ use pam_text::Texts;
 use std::alloc::{AllocError, AllocFailed};
 use thiserror::Error;
 
+/// Why the system does not read a file, a folder or a link.
+#[derive(Clone, Copy, Debug, PartialEq, Eq)]
+pub enum ReadFault {
+    NotFound,
+    NotPermitted,
+    /// A folder, or a part of a path, is none.
+    NotFolder,
+    /// A file is a folder.
+    IsFolder,
+    /// A file is neither a file nor a folder.
+    NotFile,
+    /// Links lead back to themselves.
+    Looping,
+    Failed,
+}
+
 /// Why an input cannot be read.
 #[derive(Debug, Drop, Error)]
 pub enum InputError {
     /// The name, as given on the command line, or that of an entry of the folder.
     #[error("{0} cannot be read")]
-    Read(String),
+    Read(String, ReadFault),
     #[error("out of memory")]
     Memory,
 }

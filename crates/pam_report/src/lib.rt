@@ -12,12 +12,12 @@ mod services;
 mod tables;
 
 pub use fault::{
-    Fault, PolicyFileError, conf_name, fault_status, fault_text, input_status, input_text,
-    refusal_text, usage_status, usage_text,
+    Fault, PolicyFileError, conf_name, fault_status, fault_text, input_sentence, input_status,
+    input_text, mistaken_text, refusal_text, usage_status, usage_text,
 };
 pub use inputs::{
-    AccessFiles, CheckInputs, InputError, Inputs, KnowledgeInputs, SideInputs, TableFile,
-    TableFiles,
+    AccessFiles, CheckInputs, InputError, Inputs, KnowledgeInputs, ReadFault, SideInputs,
+    TableFile, TableFiles,
 };
 pub use names::{kind_name, problem_name, stack_of};
 pub use report::{

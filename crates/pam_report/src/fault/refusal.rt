@@ -5,14 +5,15 @@ ghost use Rattle.std.specs.Option.{option_copied};
 ghost use Rattle.std.specs.Str.{bytes_eq};
 ghost use Rattle.pam_report.specs.Compare.{side_of};
 ghost use Rattle.pam_report.specs.Fault.{line_of};
-ghost use Rattle.pam_report.specs.FaultTable.{candidate_row as row_of_candidate, service_row as row_of_service};
+ghost use Rattle.pam_report.specs.FaultTable.{candidate_row as row_of_candidate, number_row as row_of_number, service_row as row_of_service};
 ghost use Rattle.pam_report.specs.Inputs.{files_given, new_given, no_files, old_given};
 ghost use Rattle.pam_report.specs.Refusal as spec;
 ghost use Rattle.pam_report.specs.Services.{has_service};
 ghost use Rattle.pam_words.specs.Wanted.{candidate_view};
 
+use super::naming::{hint, number_text};
 use super::policies::line_of_policy;
-use super::table::{candidate_row, service_row};
+use super::table::{candidate_row, number_row, service_row};
 use super::{Fault, fault_text, line};
 use crate::candidates::first_unused;
 use crate::inputs::{Inputs, SideInputs};
@@ -23,19 +24,6 @@ use pam_spelling::nearest;
 use pam_text::Texts;
 use pam_words::{Candidate, ConfSource, Request, Task};
 use std::alloc::{AllocError, Global};
-
-/// What is said of the nearest name, if there is one.
-fn hint(alloc: Global, near: Option<&[u8]>) -> Result<Vec<u8>, AllocError>
-    ensures { IfOk result (λ text. text.items ≡ spec.hint (option_map (λ n. n.now) near.entry)) }
-{
-    let mut text = Vec::new(alloc);
-    if let Some(name) = near {
-        text.extend_from_slice(b"; did you mean \"")?;
-        text.extend_from_slice(name)?;
-        text.extend_from_slice(b"\"?")?;
-    }
-    Ok(text)
-}
 
 /// Where there is no file or rule.
 fn place(alloc: Global, source: ConfSource<'_>, form: Form) -> Result<Vec<u8>, AllocError>
@@ -328,6 +316,19 @@ fn first_unused_line(
     }
 }
 
+/// The line about the number that is to be explained.
+fn number_line(alloc: Global, request: &Request<'_>) -> Result<Vec<u8>, AllocError>
+    ensures { IfOk result (λ text. text.items ≡ line_of row_of_number (spec.number_said request.now.task)) }
+{
+    match &request.task {
+        Task::Explain(Some(word)) => {
+            let said = number_text(alloc, word)?;
+            line(alloc, number_row(), &[Piece::Bytes(&said)])
+        }
+        _ => line(alloc, number_row(), &[]),
+    }
+}
+
 fn line_with(
     alloc: Global,
     fault: &Fault,
@@ -342,13 +343,14 @@ fn line_with(
     match fault {
         Fault::NoSuchService => unknown_line(alloc, request, files, inputs),
         Fault::UnusedCandidate => first_unused_line(alloc, request, files),
+        Fault::NoSuchNumber => number_line(alloc, request),
         Fault::Policy(error) => line_of_policy(alloc, request, error),
         _ => fault_text(alloc, fault, files),
     }
 }
 
 /// Returns the line of a fault of a request: `pamcheck: NUMBER NAME`, with its place if it has one, and what is said of a name that is
-/// no service, or of a candidate that no service reads. A policy is named as the request names it.
+/// no service, of a candidate that no service reads, or of a number that nothing has. A policy is named as the request names it.
 pub fn refusal_text(
     alloc: Global,
     fault: &Fault,

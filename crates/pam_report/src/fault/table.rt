@@ -264,7 +264,7 @@ pub(super) fn input_row(error: &InputError) -> Row
     ensures { row_view result ≡ spec.input_row error.now }
 {
     match error {
-        InputError::Read(_) => Row::of("V1 Read", FAILED),
+        InputError::Read(..) => Row::of("V1 Read", FAILED),
         InputError::Memory => memory_row(),
     }
 }
