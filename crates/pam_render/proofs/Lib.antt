@@ -1,5 +1,6 @@
 pub mod JsonLinesProofs
 pub mod JsonTextProofs
 pub mod PartsProofs
+pub mod SarifProofs
 pub mod SentencesProofs
 pub mod TextProofs

@@ -1,5 +1,6 @@
 pub mod json_lines
 pub mod json_text
 pub mod parts
+pub mod sarif
 pub mod sentences
 pub mod text

@@ -5,6 +5,7 @@ pub mod Needs
 pub mod Phrases
 pub mod PhrasesView
 pub mod Policy
+pub mod Refusals
 pub mod Sentences
 pub mod Shown
 pub mod Tables

@@ -1,8 +1,9 @@
-//! Replies of `pam_report` as text and as JSON, and the sentences of what is found.
+//! Replies of `pam_report` as text, as JSON and as SARIF, and the sentences of what is found.
 #![tactic(auto)]
 
 pub mod json_lines;
 pub mod json_text;
 pub mod parts;
+pub mod sarif;
 pub mod sentences;
 pub mod text;

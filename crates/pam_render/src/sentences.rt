@@ -8,6 +8,7 @@ mod needs;
 mod phrase;
 mod policy;
 mod problems;
+mod refusals;
 mod shown;
 mod tables;
 
@@ -18,5 +19,6 @@ pub use policy::{policy_finding_name, put_policy_said};
 pub use problems::{
     UNUSED, argument_naming, level_name, module_naming, problem_sentence, put_said,
 };
+pub use refusals::refusal_sentence;
 pub use shown::{MAX_SHOWN, put_name, put_name_within};
 pub use tables::{put_table_said, table_fault_sentence, time_fault_sentence};

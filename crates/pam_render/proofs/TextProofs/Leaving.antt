@@ -16,7 +16,7 @@ use Rattle.pam_report.specs.Candidates.{CandidateText}
 use Rattle.pam_report.specs.Finds.{Finds, Refuses}
 use Rattle.pam_report.specs.Memory.{IsWanting, Wants, wants as wants_of}
 use Rattle.pam_report.specs.Released.{ReleasedValue, released}
-use Rattle.pam_report.specs.Reply.{Answer, Released, Reply, StackValue, Stacks, status_of, wants_memory}
+use Rattle.pam_report.specs.Reply.{Answer, Check as CheckReply, CheckValue, Released, Reply, StackValue, Stacks, status_of, wants_memory}
 use Rattle.pam_report.specs.ReplyViews.{reply_view}
 use Rattle.pam_report.specs.Show.{for_each, kinds_shown, stack_in}
 use Rattle.pam_report.specs.declared.fault.Fault.{Fault}
@@ -24,13 +24,14 @@ use Rattle.pam_report.specs.declared.fault.Fault.TheVariants as faults
 use Rattle.pam_report.specs.declared.inputs.Inputs.{Inputs}
 use Rattle.pam_report.specs.declared.report.Status.{Status}
 use Rattle.pam_report.specs.declared.report.replies.Reply as declared
-use Rattle.pam_words.specs.declared.wanted.OutputForm.TheVariants.{Json}
+use Rattle.pam_words.specs.declared.wanted.OutputForm.TheVariants.{Json, Sarif}
 use Rattle.pam_words.specs.declared.wanted.ReleaseName.{ReleaseName}
 use Rattle.pam_words.specs.declared.wanted.Task.{Task}
 use Rattle.pam_words.specs.declared.wanted.Task.TheVariants.{Show, Decide, Access, Time, Paths, Outcomes, Graph, Check, Compare, Policy, Explain}
 use Rattle.pam_words.specs.declared.wanted.Task.TheVariants.{Facts, Needs, Version}
+use Rattle.pam_render.specs.sarif.Document.{IsSarif, has_sarif}
 use Rattle.pam_render.specs.text.Leaves.{LeavesFault, LeavesSome}
-use Rattle.pam_render.specs.text.Text.{IsJsonOrText, IsText as IsPlainText, IsTextIn}
+use Rattle.pam_render.specs.text.Text.{IsJsonOrText, IsSarifOrText, IsText as IsPlainText, IsTextIn}
 
 -- what a call gives that answers a task, if another gives as much for each relation
 pub answers-by : (One Other : (Answer → Type 0) → Type 0) → ((IsAnswer : Answer → Type 0) → One IsAnswer → Other IsAnswer)
@@ -139,6 +140,24 @@ module _ {W : Type 0} (contents : W → Option (List ℕ)) (reply : Reply) (resu
   text-printed-instead old mid new nothing h =
       subst (λ (out : Out W). PrintsBy contents (IsTextIn Json) out new result reply) nothing.1
       (printed-as contents IsPlainText (IsTextIn Json) mid new reply (as_plain reply nothing.0) result h)
+
+-- ---- SARIF
+
+plain-as_sarif : (reply : Reply) → has_sarif reply ≡ false → (text : Result (List ℕ) CursorError) → IsPlainText reply text → IsTextIn Sarif reply text
+plain-as_sarif reply none text is = subst (λ (given : Bool). IsSarifOrText given reply text) (sym none) is
+
+module _ {W : Type 0} (contents : W → Option (List ℕ)) (old new : Out W) (reply : Reply) where
+  -- the SARIF of the check that the reply is
+  pub sarif-printed : (found : CheckValue) (result : Result (Unit {0}) Fault) → reply ≡ CheckReply found
+      → PrintsBy contents IsSarif old new result (CheckReply found) → PrintsBy contents (IsTextIn Sarif) old new result reply
+  sarif-printed found result same h =
+      subst (λ (r : Reply). PrintsBy contents (IsTextIn Sarif) old new result r) (sym same)
+      (printed-as contents IsSarif (IsTextIn Sarif) old new (CheckReply found) (λ text is. is) result h)
+
+  -- the text of another reply
+  pub text-printed-for : (result : Result (Unit {0}) Fault) → has_sarif reply ≡ false → PrintsBy contents IsPlainText old new result reply
+      → PrintsBy contents (IsTextIn Sarif) old new result reply
+  text-printed-for result none h = printed-as contents IsPlainText (IsTextIn Sarif) old new reply (plain-as_sarif reply none) result h
 
 -- ---- pages
 

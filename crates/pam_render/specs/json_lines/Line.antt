@@ -1,13 +1,18 @@
 -- A line of an answer: a JSON object (RFC 8259) with no space, and a line feed.
-use Rattle.std.specs.Prelude.{ℕ, List, [], ◌∷◌, ◌++◌, codes, map, None, Option, Some}
+use Rattle.std.specs.Prelude.{ℕ, Bool, true, List, [], ◌∷◌, ◌++◌, codes, map, None, Option, Some}
 use Rattle.std.specs.List.{flat_map}
 use Rattle.std.specs.Str.Lossy.{utf8_lossy}
 use Rattle.serde_json.specs.Data.{Data, Items, Members, array, item, member, no_items, no_members, null, number, object, string, unsigned}
-use Rattle.serde_json.specs.Written.{compact_text}
+use Rattle.serde_json.specs.Written.{comma_if, compact_text}
 
 abbrev pub items_of : List Data → Items
 items_of [] = no_items
 items_of (d ∷ ds) = item d (items_of ds)
+
+-- values after a comma each, but the first only if it comes later in an array
+abbrev pub separated : Bool → List Data → List ℕ
+separated later [] = []
+separated later (d ∷ ds) = comma_if later ++ (compact_text d ++ separated true ds)
 
 -- the members of an object, in the order in which they are written
 abbrev pub members_of : List (List ℕ × Data) → Members

@@ -12,6 +12,8 @@ use Rattle.pam_findings.specs.declared.host.problem.ArgumentProblem.{ArgumentPro
 use Rattle.pam_findings.specs.declared.host.problem.ArgumentProblem.TheVariants as arguments
 use Rattle.pam_findings.specs.declared.host.problem.Problem.{Problem}
 use Rattle.pam_findings.specs.declared.host.problem.Problem.TheVariants as problems
+use Rattle.pam_findings.specs.declared.host.refusing.Refuser.{Refuser}
+use Rattle.pam_findings.specs.declared.host.refusing.Refuser.TheVariants as refusers
 use Rattle.pam_findings.specs.misspelled.Misspelled.{MisspelledText}
 use Rattle.pam_released.specs.declared.tables.difference.TableDifference.TheVariants.{EmptySeparator}
 use Rattle.pam_released.specs.Meanings.{meaning_of, mending_of}
@@ -88,6 +90,24 @@ abbrev pub not_refused_sentence : List ℕ
 not_refused_sentence =
     codes "failures are counted, but no pam_faillock.so with preauth or authsucc is ever asked, so nobody is locked out; "
     ++ codes "put a rule with preauth before the modules that check"
+
+-- S22: of one that counts failures after none
+abbrev pub no_failure_sentence : List ℕ
+no_failure_sentence =
+    codes "the rule counts failures, but is never asked after a module that checks who logs in has failed, so nobody is locked out; "
+    ++ codes "put it where a failure leads"
+
+-- S21: the file of the module that refuses passwords
+abbrev pub refuser_file : Refuser → List ℕ
+refuser_file refusers.Cracklib = codes "pam_cracklib.so"
+refuser_file refusers.Passwdqc = codes "pam_passwdqc.so"
+refuser_file refusers.Pwhistory = codes "pam_pwhistory.so"
+refuser_file refusers.Pwquality = codes "pam_pwquality.so"
+
+abbrev pub refused_sentence : Refuser → List ℕ
+refused_sentence by =
+    codes "where " ++ refuser_file by
+    ++ codes " refuses a new password, this module asks for one itself, and stores it unchecked; add use_authtok to its rule"
 
 abbrev pub large_sentence : List ℕ
 large_sentence =
@@ -208,7 +228,9 @@ problem_sentence problems.NoFunction = no_function_sentence
 problem_sentence (problems.CallerIsRoot is_daemon) = if is_daemon then daemon_sentence else caller_sentence
 problem_sentence (problems.Argument argument wrong) = argument_sentence
 problem_sentence (problems.BadArguments lack) = lack_sentence lack
+problem_sentence (problems.StoredThoughRefused by) = refused_sentence by
 problem_sentence (problems.NotCounted counts) = if counts then not_refused_sentence else not_counted_sentence
+problem_sentence problems.NoFailureCounted = no_failure_sentence
 problem_sentence problems.UnknownModule = unknown_module_sentence
 problem_sentence problems.SuccessNeverCounts = vain_sentence
 problem_sentence problems.LinkOutside = link_sentence

@@ -6,7 +6,8 @@ use Rattle.pam_report.specs.Reply.{Facts, Version}
 use Rattle.pam_facts.specs.Table.{table_text}
 use Rattle.pam_render.specs.json_text.Text.{IsJson, has_json}
 use Rattle.pam_words.specs.declared.wanted.OutputForm.{OutputForm}
-use Rattle.pam_words.specs.declared.wanted.OutputForm.TheVariants.{Json, PlainText}
+use Rattle.pam_words.specs.declared.wanted.OutputForm.TheVariants.{Json, PlainText, Sarif}
+use Rattle.pam_render.specs.sarif.Document.{IsSarif, has_sarif}
 use Rattle.pam_render.specs.text.About.{version_text}
 use Rattle.pam_render.specs.text.Check.{check_text}
 use Rattle.pam_render.specs.text.Compare.{compare_text}
@@ -45,7 +46,13 @@ abbrev pub IsJsonOrText : Bool → Reply → Result (List ℕ) CursorError → T
 IsJsonOrText true reply text = IsJson reply text
 IsJsonOrText false reply text = IsText reply text
 
+-- the SARIF of a reply, or its text if it has none
+abbrev pub IsSarifOrText : Bool → Reply → Result (List ℕ) CursorError → Type 0
+IsSarifOrText true reply text = IsSarif reply text
+IsSarifOrText false reply text = IsText reply text
+
 -- THE TEXT of a reply in a form
 abbrev pub IsTextIn : OutputForm → Reply → Result (List ℕ) CursorError → Type 0
 IsTextIn PlainText reply text = IsText reply text
 IsTextIn Json reply text = IsJsonOrText (has_json reply) reply text
+IsTextIn Sarif reply text = IsSarifOrText (has_sarif reply) reply text

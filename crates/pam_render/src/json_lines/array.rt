@@ -1,13 +1,13 @@
 //! Arrays, which are written element by element.
 
-ghost use Rattle.std.specs.Prelude.{◌++◌, false, map};
+ghost use Rattle.std.specs.Prelude.{◌++◌, ◌∷◌, [], false, map};
 ghost use Rattle.pam_text.specs.Out.{Writes};
 ghost use Rattle.serde_json.specs.Data.{array};
 ghost use Rattle.serde_json.specs.Written.{comma_if, compact_text, items_text};
-ghost use Rattle.pam_render.specs.json_lines.Line.{items_of, readable, strings};
+ghost use Rattle.pam_render.specs.json_lines.Line.{items_of, readable, separated, strings};
 
 use crate::json_lines::text::put_readable;
-use crate::json_lines::value::put_comma;
+use crate::json_lines::value::{Written, put_comma};
 use pam_text::{Device, Out, Texts};
 use std::io::Write;
 
@@ -38,20 +38,21 @@ fn put_next<T, E: Elements<T>, W: Write>(
     elements.put_element(item, out)
 }
 
-/// Writes the elements for items, and the closing bracket.
-fn put_elements<T, E: Elements<T>, W: Write>(
+/// Writes the elements for items, each with a comma before it, but the first only if it comes later in an array.
+pub fn put_more<T, E: Elements<T>, W: Write>(
     elements: &E,
+    later: bool,
     items: &[T],
     out: &mut Out<W>,
 ) -> Result<(), Device>
-    ensures { Writes W.contents out.old out.new result (items_text false (items_of (map (E.element elements.now) items.now))) }
+    ensures { Writes W.contents out.old out.new result (separated later (map (E.element elements.now) items.now)) }
 {
-    let mut later = false;
+    let mut later = later;
     for item in items {
         put_next(elements, later, item, out)?;
         later = true;
     }
-    out.put(b"]")
+    Ok(())
 }
 
 /// Writes the array of the elements for items.
@@ -63,7 +64,17 @@ pub fn put_array<T, E: Elements<T>, W: Write>(
     ensures { Writes W.contents out.old out.new result (compact_text (array (items_of (map (E.element elements.now) items.now)))) }
 {
     out.put(b"[")?;
-    put_elements(elements, items, out)
+    put_more(elements, false, items, out)?;
+    out.put(b"]")
+}
+
+/// Writes the array of one value.
+pub fn put_single<V: Written, W: Write>(value: &V, out: &mut Out<W>) -> Result<(), Device>
+    ensures { Writes W.contents out.old out.new result (compact_text (array (items_of (V.value value.now ∷ [])))) }
+{
+    out.put(b"[")?;
+    value.put(out)?;
+    out.put(b"]")
 }
 
 /// Writes a string, with a comma before it unless it is the first.

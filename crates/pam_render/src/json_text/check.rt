@@ -13,6 +13,7 @@ use crate::parts::{CheckLine, CheckLines, Counts, stacks_of};
 use finding::{put_finding, put_table_finding, put_unused};
 use pam_codes::{Device, Out};
 use std::io::Write;
+pub(crate) use values::FindingValue;
 
 /// Writes the last line.
 #[tactic(auto, unfolding(crate::specs::json_text::Check::checked_json))]

@@ -1,16 +1,19 @@
 //! Replies, written as text.
 
-ghost use Rattle.std.specs.Prelude.{map};
+ghost use Rattle.std.specs.Prelude.{◌≡◌, MatchOption, false, map};
 ghost use Rattle.pam_render.specs.parts.Prints.{PrintsBy};
-ghost use Rattle.pam_report.specs.ReplyViews.{reply_view};
+ghost use Rattle.pam_render.specs.sarif.Document.{has_sarif};
+ghost use Rattle.pam_report.specs.Reply.{Check};
+ghost use Rattle.pam_report.specs.ReplyViews.{check_view, reply_view};
 ghost use Rattle.pam_render.specs.text.Answer.{Answers};
 ghost use Rattle.pam_render.specs.text.inner.Leaves.{Prints};
 ghost use Rattle.pam_render.specs.text.Text.{IsTextIn};
 ghost use Rattle.pam_words.specs.Wanted.{candidate_view};
-ghost use Rattle.pam_words.specs.declared.wanted.OutputForm.TheVariants.{Json};
+ghost use Rattle.pam_words.specs.declared.wanted.OutputForm.TheVariants.{Json, Sarif};
 
 use crate::json_text::print_if_any;
 use crate::parts::{with_write_fault, write_check, write_compared, write_policy, write_stacks};
+use crate::sarif::write_sarif;
 use crate::text::about::{write_known, write_version};
 use crate::text::decide::write_run;
 use crate::text::drawing::write_drawing;
@@ -22,12 +25,12 @@ use crate::text::paths::PageText;
 use crate::text::released::write_released;
 use crate::text::tables::{write_access, write_time};
 use pam_codes::Out;
-use pam_report::{Fault, Inputs, Reply, Status, reply_to};
+use pam_report::{CheckReply, Fault, Inputs, Reply, Status, reply_to};
 use pam_words::{OutputForm, Request};
 use std::alloc::Global;
 use std::io::Write;
 
-/// Writes the text of a reply in a form, and flushes once, at its end. A reply that has no JSON is written as text.
+/// Writes the text of a reply in a form, and flushes once, at its end. A reply that has no JSON or SARIF is written as text.
 ///
 /// For a page of paths, a cursor that is refused is found before the first byte is written; for a page, a drawing, a check and
 /// policies, so is want of memory. Nothing is allocated after it.
@@ -42,6 +45,7 @@ pub fn print<W: Write>(
     match output {
         OutputForm::PlainText => print_text(alloc, reply, out),
         OutputForm::Json => print_json(alloc, reply, out),
+        OutputForm::Sarif => print_sarif(alloc, reply, out),
     }
 }
 
@@ -54,6 +58,28 @@ fn print_json<W: Write>(alloc: Global, reply: &Reply<'_>, out: &mut Out<W>) -> R
     match print_if_any(alloc, reply, out) {
         Some(written) => written,
         None => print_text(alloc, reply, out),
+    }
+}
+
+/// Writes the SARIF of a check, or the text of another reply.
+#[inline(never)]
+fn print_sarif<W: Write>(alloc: Global, reply: &Reply<'_>, out: &mut Out<W>) -> Result<(), Fault>
+    ensures { PrintsBy W.contents (IsTextIn Sarif) out.old out.new result (reply_view reply.now) }
+{
+    match check_in(reply) {
+        Some(check) => write_sarif(alloc, check, out),
+        None => print_text(alloc, reply, out),
+    }
+}
+
+/// Returns the check that a reply is, if it is one.
+fn check_in<'x>(reply: &'x Reply<'_>) -> Option<&'x CheckReply<'x>>
+    ensures { MatchOption result (has_sarif (reply_view reply.now) ≡ false)
+        (λ check. reply_view reply.now ≡ Check (check_view check.now)) }
+{
+    match reply {
+        Reply::Check(check) => Some(check),
+        _ => None,
     }
 }
 

@@ -189,7 +189,7 @@ fn put_answers<W: Write>(
 
 /// A value in the line of a finding.
 #[derive(Clone, Copy)]
-pub(super) enum FindingValue<'x> {
+pub(crate) enum FindingValue<'x> {
     /// What is said of a problem at a line.
     Said {
         line: usize,

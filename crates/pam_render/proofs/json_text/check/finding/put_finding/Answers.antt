@@ -1,10 +1,11 @@
-use Rattle.std.proofs.Common.{◌≡◌, ◌∙◌, ℕ, List, [], ◌∷◌, Option, ap, ap₂, codes, refl}
+use Rattle.std.proofs.Common.{◌∙◌, ℕ, List, [], Option, ap, codes, refl}
 use Rattle.std.specs.List.{after_first, before_first}
 use Rattle.std.specs.Option.{option_map}
 use Rattle.pam_codes.proofs.Writing.{writes-is}
 use Rattle.pam_conf.specs.declared.rule.Kind.{Kind}
 use Rattle.pam_findings.specs.declared.host.level.Level.{Level}
 use Rattle.pam_findings.specs.declared.host.met.Met.{Met}
+use Rattle.pam_render.proofs.JsonLinesProofs.Members.{named, then}
 use Rattle.pam_render.specs.json_lines.Line.{line, number_or_null, readable, readable_or_null}
 use Rattle.pam_render.specs.parts.Check.{text_at}
 use Rattle.pam_render.specs.parts.CheckNames.{names_view}
@@ -13,15 +14,6 @@ use Rattle.serde_json.specs.Data.{Data, number, string, unsigned}
 use Rattle.pam_render.specs.json_text.Check.{finding_json, met_unless, service_count, services_array, types_array}
 use Rattle.pam_render.specs.json_text.Header.{is_space, kind_name}
 use Rattle.pam_render.proofs.json_text.check.finding.put_finding.Goals as goal
-
-abbrev Members : Type 0
-Members = List (List ℕ × Data)
-
-abbrev named : List ℕ → Data → List ℕ × Data
-named name value = (name, value)
-
-then : (one other : List ℕ × Data) (ones others : Members) → one ≡ other → ones ≡ others → one ∷ ones ≡ other ∷ others
-then one other ones others e f = ap₂ {A = List ℕ × Data} {B = Members} {C = Members} (λ m ms. m ∷ ms) e f
 
 pub returns : goal.returns
 unfolding finding_json

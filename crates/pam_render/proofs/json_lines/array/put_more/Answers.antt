@@ -1,7 +1,7 @@
 use Rattle.std.proofs.Common.{◌+◌, [], drop, refl, true}
-use Rattle.pam_text.proofs.Writing.{all-none, all-then, err-front, front-is, front-longer, front-then, writes-is, writes-then}
-use Rattle.pam_render.proofs.JsonLinesProofs.Arrays.{element-more, elements-all, rest_text}
-use Rattle.pam_render.proofs.json_lines.array.put_elements.Goals as goal
+use Rattle.pam_text.proofs.Writing.{all-is, all-none, all-then, err-front, front-is, front-longer, front-then}
+use Rattle.pam_render.proofs.JsonLinesProofs.Arrays.{element-more, elements-all, left_text}
+use Rattle.pam_render.proofs.json_lines.array.put_more.Goals as goal
 
 pub loop-item-init : goal.loop-item-init
 loop-item-init g c = record { front = []; parts = refl; took = all-none c.args.out.now }
@@ -13,7 +13,7 @@ returns-in_err-put_next g c =
     let index = c.loop-item.item-index in
     let l = c.loop-item.invariant in
     err-front _ c.from_residual.ensures.0
-    (front-is (front-longer (rest_text element true (drop (index + 1) items)) (front-then l.took c.in_err-put_next.ensures))
+    (front-is (front-longer (left_text element true (drop (index + 1) items)) (front-then l.took c.in_err-put_next.ensures))
     (element-more element l.front _ c.loop-item.later items index _ c.item-item.result c.loop-item-test.true c.item-item.is l.parts))
 
 pub loop-item-preserved : goal.loop-item-preserved
@@ -30,5 +30,5 @@ loop-item-preserved g c =
 pub returns : goal.returns
 returns g c =
     let l = c.loop-item.invariant in
-    writes-is _ _ _ _ _ _ (writes-then _ _ _ l.took c.put.ensures)
+    all-is l.took
     (elements-all (g.E.Elements.element c.args.elements.now) l.front _ c.loop-item.later c.args.items.now c.loop-item.item-index c.loop-item-test.false l.parts)

@@ -1,0 +1,5 @@
+pub mod Document
+pub mod Location
+pub mod Results
+pub mod Rules
+pub mod inner
