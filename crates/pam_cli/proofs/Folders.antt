@@ -18,7 +18,7 @@ member-at view (x ∷ xs) (suc i) d h = inr (member-at view xs i d (omega (arith
 pub unread-one : (names : List (List ℕ)) (name : List ℕ) (error : InputError) → Member name names → IsUnread (λ n. n ≡ name) error
     → IsUnread (λ n. Member n names) error
 unread-one names name Memory m h = tt
-unread-one names name (Read text) m h = subst (λ (n : List ℕ). Member n names) (sym h) m
+unread-one names name (Read text why) m h = subst (λ (n : List ℕ). Member n names) (sym h) m
 
 -- which modules are there is known with one more folder
 pub known-next : {A : Type 0} (known : Bool) (xs : List A) (i : ℕ) → i < length xs → known_with (take (i + 1) xs) known ≡ true

@@ -165,4 +165,4 @@ IsInSource source name = ⊤
 -- an allocation failed, or a file with such a name cannot be read
 abbrev pub IsUnread : (Text → Type 0) → InputError → Type 0
 IsUnread IsName Memory = ⊤
-IsUnread IsName (Read name) = IsName (string_bytes name)
+IsUnread IsName (Read name why) = IsName (string_bytes name)

@@ -1,7 +1,7 @@
 //! A run of the program: reads the command line, answers on standard output, and reports faults on standard error.
 
 ghost use Rattle.std.specs.Prelude.{◌≡◌, ◌≤◌, ◌⊎◌, map, string_bytes};
-ghost use Rattle.pam_report.specs.Fault.{status_of_fault, status_of_input, status_of_usage};
+ghost use Rattle.pam_report.specs.Fault.{IsNumbered, status_of_fault, status_of_input, status_of_usage};
 ghost use Rattle.pam_report.specs.declared.fault.Fault.TheVariants as faults;
 ghost use Rattle.pam_cli.specs.Run.{EndsAnswered, EndsRefused, EndsRequest, Runs};
 
@@ -9,13 +9,13 @@ use crate::reading::inputs_of;
 use crate::system::System;
 use pam_codes::Out;
 use pam_conf::{Files, Form};
-use pam_render::sentences::put_name;
+use pam_render::sentences::{put_name, refusal_sentence};
 use pam_render::text::answer;
 use pam_report::{
-    Fault, InputError, Inputs, fault_status, fault_text, input_status, input_text, refusal_text,
-    usage_status, usage_text,
+    Fault, InputError, Inputs, fault_status, fault_text, input_sentence, input_status, input_text,
+    mistaken_text, refusal_text, usage_status, usage_text,
 };
-use pam_words::{Request, Usage, request};
+use pam_words::{Request, Task, Usage, find_mistake, request};
 use std::alloc::{AllocError, Global};
 use std::io::Write;
 
@@ -34,13 +34,14 @@ pub fn run<S: System, W: Write, V: Write>(
 {
     match request(alloc, words) {
         Ok(request) => answer_request(system, alloc, &request, out, err),
-        Err(usage) => help_or_refuse(alloc, &usage, out, err),
+        Err(usage) => help_or_refuse(alloc, words, &usage, out, err),
     }
 }
 
 /// Writes the help that the words ask for, or reports wrong words, and returns the exit status.
 fn help_or_refuse<W: Write, V: Write>(
     alloc: Global,
+    words: &[String],
     usage: &Usage,
     out: &mut Out<W>,
     err: &mut Out<V>,
@@ -50,8 +51,30 @@ fn help_or_refuse<W: Write, V: Write>(
 {
     match usage {
         Usage::Help(text) => help(alloc, text, out, err),
-        _ => refuse(alloc, usage, err),
+        Usage::Words(_) | Usage::Memory => refuse(alloc, usage, err),
+        _ => refuse_words(alloc, words, usage, err),
     }
+}
+
+/// Returns the line of wrong words, with what is wrong with them where their command says it.
+fn mistaken_line(alloc: Global, words: &[String], usage: &Usage) -> Result<Vec<u8>, AllocError>
+    requires { IsNumbered usage.now }
+{
+    match find_mistake(alloc, words, usage) {
+        Ok(Some(mistake)) => mistaken_text(alloc, usage, mistake),
+        Ok(None) => usage_text(alloc, usage),
+        Err(_) => Err(AllocError),
+    }
+}
+
+/// Reports wrong words on standard error, with what is wrong with them where their command says it, and returns the exit status.
+fn refuse_words<V: Write>(alloc: Global, words: &[String], usage: &Usage, err: &mut Out<V>) -> u8
+    requires { IsNumbered usage.now }
+    ensures usage { result ≡ status_of_usage usage.now }
+    ensures status { result ≤ 6 }
+{
+    say_names(mistaken_line(alloc, words, usage), err);
+    usage_status(usage)
 }
 
 /// Reports wrong words on standard error, and returns the exit status.
@@ -95,16 +118,26 @@ fn answer_request<S: System, W: Write, V: Write>(
             drop(inputs);
             status
         }
-        Err(error) => refuse_input(alloc, &error, err),
+        Err(error) => refuse_input(alloc, request, &error, err),
     }
 }
 
 /// Reports an input that cannot be read on standard error, and returns the exit status.
-fn refuse_input<V: Write>(alloc: Global, error: &InputError, err: &mut Out<V>) -> u8
+fn refuse_input<V: Write>(
+    alloc: Global,
+    request: &Request<'_>,
+    error: &InputError,
+    err: &mut Out<V>,
+) -> u8
     ensures fault { result ≡ status_of_input error.now }
     ensures status { result ≤ 6 }
 {
-    say(input_text(alloc, error), err);
+    let line = input_text(alloc, error);
+    if tells(&request.task) {
+        say_with(line, input_sentence(error), err);
+    } else {
+        say(line, err);
+    }
     input_status(error)
 }
 
@@ -121,15 +154,45 @@ fn report<W: Write, V: Write>(
     match answer(alloc, request, inputs, out) {
         Ok(status) => status.number(),
         Err(fault) => {
-            let line = refusal_text(alloc, &fault, request, inputs);
-            match fault {
-                Fault::NoSuchService | Fault::UnusedCandidate | Fault::Policy(_) => {
-                    say_names(line, err);
-                }
-                _ => say(line, err),
-            }
+            say_fault(alloc, &fault, request, inputs, err);
             fault_status(&fault)
         }
+    }
+}
+
+/// Whether the refusals of a request say what is wrong, and how to mend it. The lines of the others are a number, a name and a place.
+fn tells(task: &Task<'_>) -> bool {
+    match task {
+        Task::Show { .. }
+        | Task::Decide { .. }
+        | Task::Access { .. }
+        | Task::Time { .. }
+        | Task::Paths { .. }
+        | Task::Version => false,
+        Task::Check { .. }
+        | Task::Compare { .. }
+        | Task::Outcomes { .. }
+        | Task::Graph { .. }
+        | Task::Policy { .. }
+        | Task::Needs { .. }
+        | Task::Explain(_)
+        | Task::Facts => true,
+    }
+}
+
+/// Reports the fault of a request on standard error.
+fn say_fault<V: Write>(
+    alloc: Global,
+    fault: &Fault,
+    request: &Request<'_>,
+    inputs: &Inputs,
+    err: &mut Out<V>,
+) {
+    let line = refusal_text(alloc, fault, request, inputs);
+    if tells(&request.task) {
+        say_with(line, refusal_sentence(fault), err);
+    } else {
+        say(line, err);
     }
 }
 
@@ -170,11 +233,20 @@ fn say<V: Write>(line: Result<Vec<u8>, AllocError>, err: &mut Out<V>) {
     let _ = err.flush();
 }
 
-/// Writes a line to standard error as names are shown, since it names services and files, unless its allocation failed.
+/// Writes a line to standard error as names are shown, since it can name services and files, unless its allocation failed.
 fn say_names<V: Write>(line: Result<Vec<u8>, AllocError>, err: &mut Out<V>) {
+    say_with(line, "", err);
+}
+
+/// Writes a line in the same way, and then a sentence, if there is one.
+fn say_with<V: Write>(line: Result<Vec<u8>, AllocError>, sentence: &str, err: &mut Out<V>) {
     if let Ok(line) = line {
         if let Some((_, content)) = line.split_last() {
             let _ = put_name(content, err);
+            if !sentence.is_empty() {
+                let _ = err.put(b": ");
+                let _ = err.put(sentence.as_bytes());
+            }
             let _ = err.put(b"\n");
         }
     }

@@ -8,10 +8,23 @@ ghost use Rattle.pam_cli.specs.Sources.{IsUnread};
 ghost use Rattle.pam_cli.specs.System.{place_view, shown};
 
 use crate::system::{Found, Place, System};
-use pam_report::InputError;
+use pam_report::{InputError, ReadFault};
 use std::alloc::Global;
 use std::io;
 use std::io::ErrorKind;
+
+/// Why the system does not read what it is asked for.
+fn why(error: &io::Error) -> ReadFault {
+    match error.kind() {
+        ErrorKind::NotFound => ReadFault::NotFound,
+        ErrorKind::PermissionDenied => ReadFault::NotPermitted,
+        ErrorKind::NotADirectory => ReadFault::NotFolder,
+        ErrorKind::IsADirectory => ReadFault::IsFolder,
+        ErrorKind::InvalidInput => ReadFault::NotFile,
+        ErrorKind::FilesystemLoop => ReadFault::Looping,
+        _ => ReadFault::Failed,
+    }
+}
 
 /// Converts a failed read of this name, which may be a failed allocation too.
 pub(super) fn unread(alloc: Global, name: &str, error: &io::Error) -> InputError
@@ -21,7 +34,7 @@ pub(super) fn unread(alloc: Global, name: &str, error: &io::Error) -> InputError
         return InputError::Memory;
     }
     match String::from_str(alloc, name) {
-        Ok(name) => InputError::Read(name),
+        Ok(name) => InputError::Read(name, why(error)),
         Err(_) => InputError::Memory,
     }
 }

@@ -14,7 +14,7 @@ other-unread : (old new : ConfSource) (named : CompareFiles) (error : InputError
     → IsUnread (λ name. IsNamed (option_copied named.facts) name ⊎ IsNamed (option_copied named.returns) name) error
     → IsUnread (IsOfCompare old new named) error
 other-unread old new named Memory h = tt
-other-unread old new named (Read name) h = inr (inr (inr h))
+other-unread old new named (Read name why) h = inr (inr (inr h))
 
 pub returns-in_err-others : goal.returns-in_err-others
 returns-in_err-others g c =

@@ -17,7 +17,7 @@ use Rattle.pam_cli.proofs.reading.policy_inputs.Goals as goal
 policy-unread : (source : ConfSource) (named : KnowledgeSource) (names : List Text) (error : InputError) → IsUnread (λ name. Member name names) error
     → IsUnread (IsOfPolicies source named names) error
 policy-unread source named names Memory h = tt
-policy-unread source named names (Read name) h = inr h
+policy-unread source named names (Read name why) h = inr h
 
 pub returns : goal.returns
 returns g c = λ named fail_on same.
