@@ -86,6 +86,7 @@ OUTCOMES = ["outcomes", "login", "auth"]
 GRAPH = ["graph", "login", "auth"]
 MERMAID = [*GRAPH, "--format", "mermaid"]
 FORMATS = [b"dot", b"mermaid", b"svg"]
+FORMS = [b"short", b"json", b"sarif"]
 # Words of `paths`, and too few words for what they begin with, and too many.
 OTHER_WORDS = [["--limit", "3"], ["--after", "0"], ["--before", "0"], ["more"], ["--access", "access"], ["--returns"],
                ["--time", "time", "--user", "alice"], ["--zone", "UTC0"], ["--at-unix", "x"], ["--conf", "pam.conf"]]
@@ -184,6 +185,9 @@ def words():
     for name in FORMATS:
         for change in changed(name):
             yield [*GRAPH, "--dir", "d", *TABLES, "--format", change], tree
+    for change in (change for name in FORMS for change in changed(name)):
+        yield ["check", "--dir", "d", "--format", change], tree
+        yield ["check", "--dir", "d", "--json", "--format", change], tree
     for change in changed(CANDIDATE):
         yield [*SHOW, "--dir", "d", "--with", change], tree
         yield ["check", "login", "--dir", "d", "--with", change], tree

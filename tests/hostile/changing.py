@@ -8,7 +8,7 @@ import threading
 from hostile.running import Answer, agrees, difference
 from model import plain
 from model.faults import Fault
-from model.sources import Outside
+from model.sources import NOT_FOUND, Outside
 
 OTHER = b"auth required pam_deny.so\n"
 OLD = {"login": b"auth required pam_unix.so\n" * 40 + b"auth requird a.so\n", "common": OTHER, "other": OTHER}
@@ -18,7 +18,7 @@ FOLDER = "r/etc/pam.d"
 STACK = ["login", "auth", "--dir", FOLDER]
 ASKED = [["check", "--dir", FOLDER], ["check", "login", "--root", "r"], ["outcomes", *STACK], ["graph", *STACK],
          ["compare", FOLDER, "e"], ["compare", "e", FOLDER, "login"]]
-GONE = Fault("V1", b"login")
+GONE = Fault("V1", b"login", told=NOT_FOUND)
 # A file keeps its state for a part of the time that a run takes.
 MOST_SECONDS = 0.004
 
@@ -91,7 +91,7 @@ def run_words(program, change, texts, words):
     """How many runs of these words there were, while the file changes."""
     allowed = [Answer(*plain.answer(words, tree_of(change, text))) for text in texts]
     if None in texts:
-        allowed.append(Answer(b"", GONE.line(), GONE.status()))
+        allowed.append(Answer(b"", plain.fault_line(GONE, words), GONE.status()))
     with Changing(change, FOLDER + "/login", texts):
         answers = [program.run(words) for _ in range(RUNS)]
     for got in answers:

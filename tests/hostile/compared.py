@@ -14,7 +14,7 @@ def judged(program, words, tree):
     try:
         status = plain.Request([b"compare", *words[1:]]).comparison(tree).judge(got.stdout)
     except Fault as fault:
-        expected = Answer(b"", fault.line(), fault.status())
+        expected = Answer(b"", plain.fault_line(fault, [b"compare", *words[1:]]), fault.status())
         if not agrees(expected, got):
             raise difference(words, tree, expected, got) from None
     except compare.Wrong as wrong:

@@ -3,7 +3,7 @@ import os
 import shlex
 import tempfile
 
-from hostile.running import Difference, Program
+from hostile.running import beside_each_other
 
 # A script that keeps the answer and its status, to write it otherwise.
 KEPT = '"$program" "$@" >"$0.out"; status=$?; %s "$0.out"; exit $status'
@@ -14,6 +14,7 @@ QUICK = "exchanged files"
 FAULTY = [
     ("it drops the last line", "drawn hosts", KEPT % "sed '$d'"),
     ("it says only the first finding", "drawn hosts", KEPT % "sed -s -n '1p;1!{$p}'"),
+    ("its SARIF is one line off", "drawn hosts", KEPT % "sed '/sarif-2.1.0/s/\"startLine\":1}/\"startLine\":2}/'"),
     ("its status is always 0", "drawn hosts", '"$program" "$@"; exit 0'),
     ("it answers as it did before", "drawn hosts",
      'kept="$0.$(echo "$*" | cksum | tr " " -)"; [ -e "$kept" ] || { "$program" "$@" >"$kept" 2>"$kept.err"; echo $? >"$kept.status"; }; '
@@ -41,24 +42,11 @@ def script(program, folder, number, lines):
     return path
 
 
-def is_noticed(path, group, groups):
-    """Whether the group refuses an answer of the program. It may leave its files behind, so it has a folder of its own."""
-    with tempfile.TemporaryDirectory() as folder:
-        os.chdir(folder)
-        try:
-            dict(groups(Program(path)))[group]()
-        except Difference:
-            return True
-        finally:
-            os.chdir("/")
-    return False
-
-
-def tried(program, groups):
+def tried(path, groups):
     """What is wrong with the programs that their groups do not notice, or with the right one, and how many programs there are."""
+    programs = [*FAULTY, ("nothing is wrong", QUICK, RIGHT)]
     with tempfile.TemporaryDirectory() as folder:
-        found = [(wrong, group) for number, (wrong, group, lines) in enumerate(FAULTY)
-                 if not is_noticed(script(program.path, folder, number, lines), group, groups)]
-        if is_noticed(script(program.path, folder, len(FAULTY), RIGHT), QUICK, groups):
-            found.append(("nothing is wrong", QUICK))
-    return found, len(FAULTY) + 1
+        asked = [(script(path, folder, number, lines), groups, group) for number, (_, group, lines) in enumerate(programs)]
+        noticed = [difference is not None for _, _, difference in beside_each_other(asked)]
+    found = [(wrong, group) for (wrong, group, lines), is_noticed in zip(programs, noticed) if is_noticed == (lines == RIGHT)]
+    return found, len(programs)

@@ -5,11 +5,12 @@ Each answer is the plain reading's. Besides, no control character of a name come
 nor out of `policy`, nor out of `outcomes` and `needs` after their headers, U+009B included, which some terminals take as the begin of an
 escape; so each line is one that the program wrote. Nor does a character that cannot be seen, or that turns the direction of the text.
 The texts of drawings are printable ASCII. What `show`, headers and faults say of names is their own bytes."""
+import os
 import re
 
 from hostile import compared
 from hostile.running import Answer, Difference, agrees, difference
-from model import plain
+from model import plain, said
 
 NAMES = ["line\nfeed", "\nlogin:1: error: E1 NulByte: none", "\x1b[31mred\x1b[0m", "\x1b]0;title\x07", "\x1b[2J", "cr\rhere", "tab\there",
          "back\\slash", "\\x0a", 'quo"te', "quo'te", '"];x[', "<b>&amp;", "-->", "]]>", "#1;", "$(id)", "`id`", "%s%n", "a b", " ", ":1:",
@@ -97,11 +98,11 @@ def of_paths(program, name):
 
 
 def of_explain(program, name):
-    """A number that there is not; nothing of it is told."""
+    """A number that there is not, which is told as names are."""
     if name.startswith("-"):
         return 0
     got = program.run(["explain", name])
-    if got != Answer(b"", b"pamcheck: U14 NoSuchNumber\n", 2):
+    if got != Answer(b"", b"pamcheck: U14 NoSuchNumber: %s\n" % said.number(os.fsencode(name)), 2):
         raise Difference("explain %r: %s" % (name, got))
     return 1
 

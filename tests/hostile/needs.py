@@ -11,7 +11,7 @@ import time
 from hostile.policies import MOST_MEMORY
 from hostile.running import Answer, Difference, agrees, difference
 from hostile.worst import GRAPHS, STACK
-from model import host, needs, plain, policies, policy_text, stacks
+from model import host, needs, plain, policies, policy_text, said, stacks
 
 MOST_RUNS = 3000
 EVENT = re.compile(rb"([^][=]+)(?:\[([^]]+)\])?(=any)?")
@@ -141,7 +141,7 @@ LARGE = {
     "required": (stack_of(b"required"), HEADER + lines(b"needs", [ANY_OF_ALL]) + lines(b"obeys", NAMES) + lines(b"always asks", NAMES)),
     "sufficient": (stack_of(b"sufficient"), HEADER + lines(b"needs", [ANY_OF_ALL]) + lines(b"obeys", NAMES[-1:]) + lines(b"always asks", NAMES[:1])),
 }
-TOO_LARGE = Answer(b"", b"pamcheck: E19 TooManyStates\n", 3)
+TOO_LARGE = Answer(b"", b"pamcheck: E19 TooManyStates: %s\n" % said.TOLD["E19"], 3)
 
 
 def in_time(program, words, tree):

@@ -7,6 +7,7 @@ import time
 from hostile.running import Answer, Difference, agrees, difference
 from hostile.worst import GRAPHS, STACK, STACKS, filled
 from model import plain
+from model import said as refusals
 from model.faults import MOST_BYTES
 
 MOST_SECONDS = 10
@@ -108,9 +109,9 @@ def texts(program):
     """Policies of 1 MiB, and of a byte more."""
     for front, piece, back, said in TEXTS:
         rules = said if isinstance(said, int) else 0
-        expected = holding(rules, rules) if isinstance(said, int) else Answer(b"", b"pamcheck: %s\n" % said.encode(), 4)
+        expected = holding(rules, rules) if isinstance(said, int) else Answer(b"", b"pamcheck: %s: %s\n" % (said.encode(), refusals.OF_POLICY[said.split()[0]]), 4)
         judged(program, {**SMALL, "p": filled(front, piece, back)}, expected)
-    judged(program, {**SMALL, "p": b"#" * (MOST_BYTES + 1)}, Answer(b"", b"pamcheck: TE12 TableTooLong p:0\n", 4))
+    judged(program, {**SMALL, "p": b"#" * (MOST_BYTES + 1)}, Answer(b"", b"pamcheck: TE12 TableTooLong p:0: %s\n" % refusals.OF_POLICY["TE12"], 4))
     return len(TEXTS) + 1
 
 

@@ -11,8 +11,11 @@ from hostile import refusals
 from hostile.running import Answer, Difference, write
 from hostile.streams import OtherUser, expect
 from model import plain
+from model.sources import NO_FOLDER
 
 MOST_LINKS = 40
+NO_FILE = b"it is no regular file; put one in its place"
+UNREAD = b"it cannot be read; look what it is"
 INSIDE = b"auth required pam_inside.so\naccount required pam_access.so\naccount required pam_time.so\n"
 OUTSIDE = INSIDE.replace(b"inside", b"outside")
 OTHER = b"auth required pam_deny.so\naccount required pam_deny.so\n"
@@ -263,22 +266,24 @@ def words_are_followed(program):
 def unread(program):
     """What cannot be followed is V1, with the name that it has elsewhere."""
     su, runs = {"etc/pam.d/su": OTHER}, 0
-    for files, links, command, name in (
-            (su, {"etc/pam.d/login": b"not\xfftext"}, "show", "login"),
-            (su, {"etc/pam.d/login": "x", "etc/pam.d/x": b"/not\xfftext/x"}, "show", "login"),
-            ({"etc": b""}, {}, "show", "root/etc/pam.d"),
-            ({}, {"etc": "etc"}, "show", "root/etc/pam.d"),
-            ({"file": b""}, {"etc": "/file"}, "show", "root/etc/pam.d"),
-            ({**su, "vendor": b""}, {"usr/lib/pam.d": "/vendor"}, "show", "root/usr/lib/pam.d"),
-            ({**su, "etc/security": b""}, {}, "check", "root/etc/security/access.conf"),
-            ({**su, "folder/": None}, {"etc/group": "/folder"}, "check", "root/etc/group"),
-            ({**su, "folder/": None}, {"etc/security/access.conf": "/folder"}, "check", "root/etc/security/access.conf"),
-            (su, {"etc/security/access.d/x.conf": b"not\xfftext"}, "check", "root/etc/security/access.d/x.conf"),
-            ({**su, "etc/security/access.d/\udcff": b""}, {}, "check", "root/etc/security/access.d"),
-            ({**su, "usr": b""}, {}, "check", "root/usr/lib/pam.d")):
+    for files, links, command, name, told in (
+            (su, {"etc/pam.d/login": b"not\xfftext"}, "show", "login", b""),
+            (su, {"etc/pam.d/login": "x", "etc/pam.d/x": b"/not\xfftext/x"}, "show", "login", b""),
+            ({"etc": b""}, {}, "show", "root/etc/pam.d", b""),
+            ({}, {"etc": "etc"}, "show", "root/etc/pam.d", b""),
+            ({}, {"etc": "etc"}, "check", "root/etc/pam.d", b"its links lead back to themselves; mend one of them"),
+            ({"file": b""}, {"etc": "/file"}, "show", "root/etc/pam.d", b""),
+            ({**su, "vendor": b""}, {"usr/lib/pam.d": "/vendor"}, "show", "root/usr/lib/pam.d", b""),
+            ({**su, "etc/security": b""}, {}, "check", "root/etc/security/access.conf", NO_FOLDER),
+            ({**su, "folder/": None}, {"etc/group": "/folder"}, "check", "root/etc/group", NO_FILE),
+            ({**su, "folder/": None}, {"etc/security/access.conf": "/folder"}, "check", "root/etc/security/access.conf", NO_FILE),
+            (su, {"etc/security/access.d/x.conf": b"not\xfftext"}, "check", "root/etc/security/access.d/x.conf", UNREAD),
+            ({**su, "etc/security/access.d/\udcff": b""}, {}, "check", "root/etc/security/access.d", UNREAD),
+            ({**su, "usr": b""}, {}, "check", "root/usr/lib/pam.d", NO_FOLDER)):
         make("root", files, links)
         words = [command, *["su", "auth"][:2 * (command == "show")], "--root", "root"]
-        expect(words, Answer(b"", b"pamcheck: V1 Read %s\n" % name.encode(), 5), program.run(words), nested(files))
+        line = b"pamcheck: V1 Read %s%s\n" % (name.encode(), told and b": " + told)
+        expect(words, Answer(b"", line, 5), program.run(words), nested(files))
         shutil.rmtree("root")
         runs += 1
     return runs

@@ -3,7 +3,9 @@ import ctypes
 import os
 import shlex
 import signal
+import tempfile
 from collections import namedtuple
+from concurrent.futures import ProcessPoolExecutor
 
 from model import picture, plain
 
@@ -176,6 +178,27 @@ class Program:
         if not agrees(expected, got):
             raise difference(words, tree, expected, got)
         return got
+
+
+def outcome(group):
+    """What a group comes to, a program's path, a function of its groups and a name: how many cases it has and what else is to be said, or the first
+    difference. It may leave its files behind, so it has a folder of its own."""
+    path, groups, name = group
+    with tempfile.TemporaryDirectory() as folder:
+        os.chdir(folder)
+        try:
+            count = dict(groups(Program(path)))[name]()
+        except Difference as found:
+            return 0, None, str(found)
+        finally:
+            os.chdir("/")
+    return (*count, None) if isinstance(count, tuple) else (count, None, None)
+
+
+def beside_each_other(groups):
+    """What each group comes to, in their order, with as many at a time as there are processors."""
+    with ProcessPoolExecutor() as processes:
+        yield from processes.map(outcome, groups)
 
 
 def on_alarm(*_):

@@ -41,6 +41,10 @@ TAKERS = {b"auth": {b"use_first_pass": b"""pam_unix pam_ldap pam_sss pam_winbind
           b"password": {b"use_authtok": b"""pam_unix pam_ldap pam_sss pam_winbind pam_krb5 pam_pwhistory pam_pwquality pam_passwdqc
                             pam_cracklib""".split(),
                         b"use_first_pass": [b"pam_unix"]}}
+# Modules that check new passwords, each with the word by which it refuses none.
+REFUSERS = [(b"pam_cracklib", None), (b"pam_passwdqc", b"enforce=none"), (b"pam_pwhistory", b"remember=0"), (b"pam_pwquality", b"enforcing=0")]
+# Modules that store a new password.
+STORERS = b"pam_unix pam_ldap pam_sss pam_winbind pam_krb5".split()
 # Modules that ask for no password which others can take.
 NEVER_ASKERS = set(b"""pam_deny pam_permit pam_env pam_access pam_nologin pam_faildelay pam_faillock pam_group pam_issue pam_keyinit pam_limits
     pam_succeed_if pam_rootok pam_wheel pam_listfile pam_localuser pam_securetty pam_shells pam_usertype pam_warn pam_debug pam_echo
@@ -135,6 +139,16 @@ def lack(name, kind, words):
 def takes(name, kind, word):
     """Whether a module has a word by which it takes only a password that a module before it asked for."""
     return name in TAKERS.get(kind, {}).get(word, [])
+
+
+def stores(name, words):
+    """Whether a module stores a new password, for which it asks itself where none asked before."""
+    return name in STORERS and not any(takes(name, b"password", word) for word in words)
+
+
+def counts(name, words):
+    """Whether a rule is one of pam_faillock that counts failures."""
+    return name == b"pam_faillock" and [word for word in words if word in (b"preauth", b"authfail", b"authsucc")][-1:] == [b"authfail"]
 
 
 def may_ask(name, kind, words):

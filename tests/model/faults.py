@@ -79,18 +79,20 @@ MOST_BYTES = 1048576
 
 
 class Fault(Exception):
-    """A refusal by its number, with its place as bytes where it has one, and what is said after it."""
+    """A refusal by its number, with its place as bytes where it has one, and what is said after it; also what commands that tell why say,
+    where the number alone does not say it."""
 
-    def __init__(self, number, place=None, said=b""):
-        super().__init__(number, place, said)
+    def __init__(self, number, place=None, said=b"", told=None):
+        super().__init__(number, place, said, told)
         self.number = number
         self.place = place
         self.said = said
+        self.told = told
 
-    def line(self):
-        """The line on standard error."""
-        place = b"" if self.place is None else b" " + self.place
-        return b"pamcheck: %s %s%s%s\n" % (self.number.encode(), NAMES[self.number].encode(), place, self.said)
+    def line(self, told=b"", show=bytes):
+        """The line on standard error, by how names are shown."""
+        place = b"" if self.place is None else b" " + show(self.place)
+        return b"pamcheck: %s %s%s%s%s\n" % (self.number.encode(), NAMES[self.number].encode(), place, self.said, told)
 
     def status(self):
         """The status with which the program ends."""

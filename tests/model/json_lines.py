@@ -98,18 +98,25 @@ def quoted(word):
     return ('"%s"' % text(word)).encode()
 
 
-def check(checked, paths, accept=(b"", ()), given=()):
-    """What `check` prints of a host."""
+def findings(checked, paths, accept=(b"", ()), given=()):
+    """What is found of a host, in order: of each finding what `finding` takes."""
     found, of_tables, unused = host.unaccepted(checked, accept, given)
     for (file, at, number, detail), met in found:
         sentence = host.said(checked, file, at, number, detail, quoted, lambda name: text(name).encode())
         stack = detail[:2] if isinstance(detail, tuple) else None
-        yield finding(paths[file], at, host.level_of(number, detail), host.name_of(number), sentence, stack, host.named_met(detail, met),
-                      checked.ways.get((file, at, number, detail), ()))
+        yield (paths[file], at, host.level_of(number, detail), host.name_of(number), sentence, stack, host.named_met(detail, met),
+               checked.ways.get((file, at, number, detail), ()))
     for table, at, number in of_tables:
-        yield finding(given[table][0], at, host_tables.level_of(number), host_tables.name_of(number), host_tables.sentence(table, number))
+        yield given[table][0], at, host_tables.level_of(number), host_tables.name_of(number), host_tables.sentence(table, number)
     for at in unused:
-        yield finding(accept[0], at, 1, b"S8 NothingAccepted", host.UNUSED)
+        yield accept[0], at, 1, b"S8 NothingAccepted", host.UNUSED
+
+
+def check(checked, paths, accept=(b"", ()), given=()):
+    """What `check` prints of a host."""
+    for one in findings(checked, paths, accept, given):
+        yield finding(*one)
+    found, of_tables, unused = host.unaccepted(checked, accept, given)
     levels = host.levels_of(found, of_tables, unused)
     count = len(checked.services)
     yield line("checked", services=count, stacks=4 * count, errors=levels.count(2), warnings=levels.count(1), notes=levels.count(0))

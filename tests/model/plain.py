@@ -7,7 +7,8 @@ words that it does not take is its own, so standard error is `None` then. Help a
 import re
 from itertools import islice
 
-from model import compare, graph, json_lines, needs, policies, policy_text, readings, services, sources, stacks, tables, zones
+from model import compare, graph, json_lines, needs, policies, policy_text, readings, said, sarif, services, sources, stacks, tables
+from model import zones
 from model import given as plain_given
 from model import host as plain_host
 from model import outcomes as plain_outcomes
@@ -18,7 +19,7 @@ ANSWERS = b" --answers --facts"
 KNOWING = b" --modules --access --time --group --returns --set --user --rhost --tty --at --at-unix --zone"
 SOURCES = b"--dir --vendor-dir --conf --root --with"
 OPTIONS = {
-    b"check": SOURCES + b" --modules --access --time --group --facts --accept --fail-on --json",
+    b"check": SOURCES + b" --modules --access --time --group --facts --accept --fail-on --format --json",
     b"compare": b"--conf --root --json --modules --facts --returns --set",
     b"show": SOURCES + b" --as --json",
     b"decide": SOURCES + b" --json",
@@ -41,7 +42,9 @@ FLAGS = {b"compare": [b"--conf", b"--root", b"--json"],
          **dict.fromkeys([b"check", b"show", b"decide", b"paths", b"outcomes", *OF_POLICIES, b"access", b"time"], [b"--json"])}
 WITH_SOURCE = [name for name, options in OPTIONS.items() if options.startswith(SOURCES)]
 ABOUT = (b"facts", b"version")
-VERSION = b"pamcheck 1.0.0 (proved with rattle, logic dac8208d650f15bf)\n"
+VERSION = "1.0.0 (proved with rattle, logic dac8208d650f15bf)"
+# The forms of a check.
+FORMS = (b"short", b"json", b"sarif")
 REQUIRED = {b"access": [b"--access", b"--user"], b"time": [b"--time", b"--user"]}
 MOST_ARGUMENTS = {b"compare": 4, b"facts": 0, b"version": 0, b"show": 2, b"paths": 2, b"outcomes": 2, b"graph": 2, b"needs": 2, b"time": 1}
 LEAST_ARGUMENTS = {b"check": 0, b"compare": 2, b"facts": 0, b"version": 0, b"show": 1, b"decide": 2, b"paths": 2, b"outcomes": 2, b"graph": 2,
@@ -60,9 +63,15 @@ def answer(words, tree):
         text, status = Request(words).answer(tree)
         return text, b"", status
     except Fault as fault:
-        return b"", fault.line(), fault.status()
+        return b"", fault_line(fault, words), fault.status()
     except WrongWords:
         return b"", None, 2
+
+
+def fault_line(fault, words):
+    """The line of a fault of these words on standard error."""
+    words = [word if isinstance(word, bytes) else word.encode() for word in words]
+    return fault.line() if fault.number == "U1" else said.line(fault, *parsed(words))
 
 
 # Texts
@@ -141,6 +150,10 @@ class Request:
         if self.command == b"policy":
             self.settings = settings_of(self.options)
             self.judge_login_and_moment()
+        if self.command == b"check":
+            self.form = self.options.get(b"--format", b"json" if self.is_json() else b"short")
+            if self.form not in FORMS or self.is_json() and self.form != b"json":
+                raise Fault("U12")
         if self.command in (b"check", b"compare", b"policy", *ABOUT):
             return
         self.service = self.arguments[0].lower()
@@ -197,7 +210,7 @@ class Request:
         if self.command == b"facts":
             return b"".join(b" ".join(row) + b"\n" for row in plain_host.FACTS), 0
         if self.command == b"version":
-            return VERSION, 0
+            return b"pamcheck %s\n" % VERSION.encode(), 0
         if self.command == b"compare":
             text, status = self.comparison(tree).whole()
             return b"".join(map(json_lines.compared, text.splitlines())) if self.is_json() else text, status
@@ -252,7 +265,7 @@ class Request:
         return b"%s %s %d modules\n" % (self.service, kind, len(modules)) + b"".join(item_lines(items, b""))
 
     def is_json(self):
-        """Whether the answer is JSON."""
+        """Whether JSON is asked for by its option."""
         return b"--json" in self.options
 
     def folders(self, tree):
@@ -286,8 +299,10 @@ class Request:
         host = plain_host.Host(form, files, self.services, there, facts, source.of_vendor, source.outside)
         accept = self.options.get(b"--accept", b""), accepted
         status = plain_host.status(plain_host.levels_of(*plain_host.unaccepted(host, accept, given)), self.options.get(b"--fail-on", b"warning"))
-        if self.is_json():
+        if self.form == b"json":
             return b"".join(json_lines.check(host, source.paths, accept, given)), status
+        if self.form == b"sarif":
+            return sarif.check(VERSION, host, source.paths, accept, given), status
         return plain_host.text(host, source.paths, accept, given), status
 
     def policy(self, source, named):
@@ -298,7 +313,7 @@ class Request:
         self.read_facts()
         rules = []
         for name, data in named:
-            rules += policy_text.rules_of(name, data, len(rules), plain_host.shown)
+            rules += policy_text.rules_of(name, data, len(rules))
         self.moment()
         self.judge_keys(source.files)
         judgement = policies.Judgement(policies.Host(source.files, self.there, self.facts, self.answers_at), rules)

@@ -162,10 +162,9 @@ def words_of(line):
     return words[:comments[0]] if comments else words
 
 
-def rules_of(policy, data, before, shown):
-    """The rules of a policy, after so many of earlier ones. `shown` is how its name is shown."""
-    place = shown(policy)
-    faults.judge_whole(place, data, "TE12", "TE10")
+def rules_of(policy, data, before):
+    """The rules of a policy, after so many of earlier ones."""
+    faults.judge_whole(policy, data, "TE12", "TE10")
     rules = []
     for number, line in enumerate(data.split(b"\n"), 1):
         words = words_of(line)
@@ -176,7 +175,7 @@ def rules_of(policy, data, before, shown):
                 raise LineFault("TE24")
             rules.append(rule_of(policy, number, words))
         except LineFault as fault:
-            raise Fault(fault.number, b"%s:%d" % (place, number)) from None
+            raise Fault(fault.number, b"%s:%d" % (policy, number)) from None
     return rules
 
 

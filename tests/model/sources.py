@@ -7,6 +7,9 @@ from model.faults import Fault
 
 SOURCES = [b"--dir", b"--conf", b"--root"]
 WITH = b"--with"
+NOT_FOUND = b"there is no such file or folder; mend the name"
+NO_FOLDER = b"it is no folder, or a part of its path is none; write the name of a folder"
+IS_FOLDER = b"it is a folder; write the name of a file"
 
 
 def judge(options, has_default):
@@ -82,7 +85,7 @@ class Source:
         folder, vendor, conf = (joined(root, name) for name in (b"etc/pam.d", b"usr/lib/pam.d", b"etc/pam.conf"))
         there = [home for home in (folder, vendor) if isinstance(found(self.tree, home), dict)]
         if self.candidates and not there:
-            raise Fault("V1", folder)
+            raise Fault("V1", folder, told=NOT_FOUND)
         return self.folders(there) if there else self.single(conf, found(self.tree, conf))
 
 
@@ -107,11 +110,20 @@ def found(tree, path):
     return trail[-1] if trail else None
 
 
+def why_unread(tree, name, there):
+    """Why what is there is not what is to be read."""
+    if isinstance(there, dict):
+        return IS_FOLDER
+    above = [name[:at] for at in range(1, len(name)) if name[at:at + 1] == b"/"]
+    is_below_file = any(isinstance(found(tree, folder), bytes) for folder in above)
+    return NO_FOLDER if is_below_file or there is not None else NOT_FOUND
+
+
 def listed(tree, name):
     """The entries of a folder that the words name."""
     folder = found(tree, name)
     if not isinstance(folder, dict):
-        raise Fault("V1", name)
+        raise Fault("V1", name, told=why_unread(tree, name, folder))
     return folder
 
 
@@ -119,5 +131,5 @@ def read(tree, name):
     """The bytes of a file that the words name."""
     data = found(tree, name)
     if not isinstance(data, bytes):
-        raise Fault("V1", name)
+        raise Fault("V1", name, told=why_unread(tree, name, data))
     return data
