@@ -10,13 +10,13 @@ _pamcheck_numbers='E1 E2 E3 E4 E5 E6 E7 E8 E9 E10 E11 E12 E13 E14 E15 E16 E17 E1
     TE8 TE9 TE10 TE11 TE12 TE13 TE14 TE15 TE16 TE17 TE18 TE19 TE20 TE21 TE22 TE23 TE24 C1 C2 C3 C4 M1 M2
     M4 U1 U2 U3 U4 U5 U6 U7 U8 U9 U10 U11 U12 U13 U14 U15 U16 U17 U18 U19 U20 V1 V2 L1 L2 L3 L4 L5 L6 L7
     L8 L9 L10 A1 A2 A3 A4 A5 A6 A7 T1 T2 T3 T4 S1 S2 S3 S4 S5 S6 S7 S8 S9 S10 S11 S12 S13 S14 S15 S16
-    S17 S18 S19 S20 S22 S23 S25 S26 S27 P1 P2 P3 P4 P5 P6 P7'
+    S17 S18 S19 S20 S21 S22 S23 S25 S26 S27 P1 P2 P3 P4 P5 P6 P7'
 
 # The options of a command.
 _pamcheck_options() {
     case $1 in
         check) echo '--dir --vendor-dir --conf --root --with --modules --access --time --group --facts --accept --fail-on
-            --json --help' ;;
+            --format --json --help' ;;
         compare) echo '--conf --root --json --modules --facts --returns --set --help' ;;
         policy) echo '--dir --vendor-dir --conf --root --with --json --fail-on --facts --modules --user --rhost --tty
             --access --time --group --returns --set --at --at-unix --zone --help' ;;
@@ -45,13 +45,14 @@ _pamcheck_takes() {
         *:--conf | *:--access | *:--time | *:--group | *:--facts | *:--accept | *:--returns) takes=file ;;
         *:--with) takes=candidate ;;
         *:--fail-on) takes='error warning note' ;;
+        check:--format) takes='short json sarif' ;;
         *:--set) takes=setting ;;
         *:--user) takes=user ;;
         *:--rhost) takes=host ;;
         *:--as) takes='linux-pam-1.5 linux-pam-1.7' ;;
         *:--decision) takes=set ;;
         *:--answers) takes='any possible' ;;
-        *:--format) takes='dot mermaid svg' ;;
+        graph:--format) takes='dot mermaid svg' ;;
         *:--*) takes=text ;;
         compare:0 | compare:1) takes=file ;;
         compare:2 | show:0 | decide:0 | paths:0 | outcomes:0 | graph:0 | needs:0 | access:0 | time:0) takes=service ;;

@@ -124,7 +124,7 @@ set -g __pamcheck_numbers E1 E2 E3 E4 E5 E6 E7 E8 E9 E10 E11 E12 E13 E14 E15 E16
     TE8 TE9 TE10 TE11 TE12 TE13 TE14 TE15 TE16 TE17 TE18 TE19 TE20 TE21 TE22 TE23 TE24 C1 C2 C3 C4 M1 M2 \
     M4 U1 U2 U3 U4 U5 U6 U7 U8 U9 U10 U11 U12 U13 U14 U15 U16 U17 U18 U19 U20 V1 V2 L1 L2 L3 L4 L5 L6 L7 \
     L8 L9 L10 A1 A2 A3 A4 A5 A6 A7 T1 T2 T3 T4 S1 S2 S3 S4 S5 S6 S7 S8 S9 S10 S11 S12 S13 S14 S15 S16 \
-    S17 S18 S19 S20 S22 S23 S25 S26 S27 P1 P2 P3 P4 P5 P6 P7
+    S17 S18 S19 S20 S21 S22 S23 S25 S26 S27 P1 P2 P3 P4 P5 P6 P7
 # The options without a value: those of each command, and those of one.
 set -g __pamcheck_flags --json 'compare --conf' 'compare --root'
 
@@ -191,6 +191,8 @@ complete -c pamcheck -n '__pamcheck_in check' -l accept -r -F \
     -d 'The findings that are meant to be, a line for each, as S2 SERVICE auth'
 complete -c pamcheck -n '__pamcheck_in check policy' -l fail-on -x -a 'error warning note' \
     -d 'error, warning or note: the least level that fails; warning if left out'
+complete -c pamcheck -n '__pamcheck_in check' -l format -x -a 'short json sarif' \
+    -d 'short (for people), json (as --json) or sarif (for code scanning); short if left out'
 complete -c pamcheck -n '__pamcheck_in check compare policy show decide paths outcomes needs access time' -l json \
     -d 'Answer in JSON Lines'
 complete -c pamcheck -n '__pamcheck_in compare' -l conf -d 'OLD and NEW are files for all services'
