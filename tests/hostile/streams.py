@@ -10,6 +10,7 @@ import threading
 
 from hostile.running import Answer, Difference, agrees, difference
 from model import plain
+from model.sources import LOOP
 from model.faults import MOST_BYTES
 
 STACK = b"auth [success=1 auth_err=die default=ignore] a.so\n" * 12
@@ -238,10 +239,10 @@ def sources(program):
     os.mkdir("empty")
     runs = 0
     for name in ("ring", "access", "gone", "link", "empty", "d/login/x"):
-        tree = {**TREE, "link": TREE["d"], "empty": {}}
+        tree = {**TREE, "ring": LOOP, "link": TREE["d"], "empty": {}}
         check_like(program, ["show", "login", "auth", "--dir", name], tree)
         runs += 1
-    endless = {**TREE, "/dev/zero": b"\0" * 1048577, "/dev/null": b""}
+    endless = {**TREE, "ring": LOOP, "/dev/zero": b"\0" * 1048577, "/dev/null": b""}
     known = ["login", "auth", "--dir", "d", "--user", "alice", "--at", "2024-05-06T10:00"]
     base = ["paths", *known, "--limit", "3"]
     for name in ("ring", "d", "gone", "/dev/zero", "/dev/null"):

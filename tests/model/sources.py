@@ -10,6 +10,12 @@ WITH = b"--with"
 NOT_FOUND = b"there is no such file or folder; mend the name"
 NO_FOLDER = b"it is no folder, or a part of its path is none; write the name of a folder"
 IS_FOLDER = b"it is a folder; write the name of a file"
+LOOPING = b"its links lead back to themselves; mend one of them"
+FAILED = b"it cannot be read; look what it is"
+# What is in a tree in the place of a link that leads back to itself.
+LOOP = "a loop of links"
+# The most bytes of a name of a file; the system answers of a longer one that it is too long, and not that it is not there.
+LONGEST = 255
 
 
 def judge(options, has_default):
@@ -114,6 +120,10 @@ def why_unread(tree, name, there):
     """Why what is there is not what is to be read."""
     if isinstance(there, dict):
         return IS_FOLDER
+    if there == LOOP:
+        return LOOPING
+    if there is None and len(name.partition(b"/")[0]) > LONGEST:
+        return FAILED
     above = [name[:at] for at in range(1, len(name)) if name[at:at + 1] == b"/"]
     is_below_file = any(isinstance(found(tree, folder), bytes) for folder in above)
     return NO_FOLDER if is_below_file or there is not None else NOT_FOUND
