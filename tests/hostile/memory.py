@@ -31,6 +31,8 @@ KEPT = "kept"
 
 # The words are gathered, and their list fitted; standard output gets its buffer; `clap` reads the words.
 WORDS = [U7, KEPT, E17, U7]
+# What is wrong with words that are refused: they are read once more, and the wrong one is put into lower case, and fitted.
+MISTAKES = WORDS + [UNSAID, KEPT]
 # The folder and the files are read, then the configuration.
 STACKS = WORDS + [E17]
 # The moment takes no memory, so there is no M3. The service is put into lower case, and fitted.
@@ -133,7 +135,7 @@ ASKED = [
     (["show"], WORDS),
     (["show", "login", "atuh", "--dir", "d"], [*WORDS, UNSAID]),
     (["time", "login", "--time", "time", "--user", "alice"], [*WORDS, UNSAID]),
-    (["graph", "login", "auth", "--dir", "d", "--format", "gif"], [*WORDS, UNSAID]),
+    (["graph", "login", "auth", "--dir", "d", "--format", "gif"], [*MISTAKES, UNSAID]),
     (["show", "login", "auth", "--dir", "d", "--with", "login=d/common", "--with", "new"], [*WORDS, UNSAID]),
     (["show", "login", "auth", "--dir", "gone"], [*STACKS, UNSAID]),
     (["show", "login", "auth", "--dir", "d", "--with", "login=gone"], [*STACKS, UNSAID]),
