@@ -1,6 +1,6 @@
 -- The answers of modules: sets of at least one code.
 use Rattle.std.proofs.Common.{◌≡◌, ◌≢◌, ◌∙◌, ◌+◌, ◌<◌, ◌≤◌, ◌==◌, ◌||◌, ◌&&◌, ℕ, Bool}
-use Rattle.std.proofs.Common.{not, List, [], ◌∷◌, Option, Some, None, if◌then◌else◌, refl, sym, ap, arith, inl, inr}
+use Rattle.std.proofs.Common.{false, not, true, List, [], ◌∷◌, Option, Some, None, if◌then◌else◌, refl, sym, ap, arith, inl, inr}
 use Rattle.std.specs.Option.{option_map_or}
 use Rattle.std.proofs.lemmas.List.{nil_from_length}
 use Rattle.std.proofs.lemmas.Bool.{cases_eq, cond-true, cond-false, cond_both, eq-eqb, ne_eqb}
@@ -11,8 +11,9 @@ use Rattle.pam_conf.specs.Stack.{Items, ModuleText, module_at}
 use Rattle.pam_conf.specs.declared.rule.Kind.{Kind}
 use Rattle.pam_paths.specs.Known.{answers_by}
 use Rattle.pam_paths.proofs.KnownCodes.{something_set}
-use Rattle.pam_facts.specs.Answers.{answers_at, answers_of, is_there, left_out, module_answers, or_failure}
+use Rattle.pam_facts.specs.Answers.{answers_at, answers_of, called_answers, is_there, left_out, module_answers, or_failure, or_failures, refused_answers}
 use Rattle.pam_facts.specs.Facts.{codes_in}
+use Rattle.pam_facts.specs.Failing.{always_fails, failures}
 use Rattle.pam_facts.specs.Fitting.{fact_of}
 use Rattle.pam_facts.specs.Rows.{Row}
 use Rattle.pam_facts.specs.declared.answers.Checks.{Checks}
@@ -46,9 +47,26 @@ any_code : IsSomeSet all_codes
 unfolding all_codes
 any_code = record { order = refl; some = λ none. absurd (cc) }
 
+some_failures : IsSomeSet failures
+unfolding all_codes
+some_failures = record { order = refl; some = λ none. absurd (cc) }
+
 or_failure_some : (codes : List ℕ) → IsCodeSet codes → IsSomeSet (or_failure codes)
 or_failure_some [] order = one_failure
 or_failure_some (code ∷ codes) order = record { order = order; some = λ none. absurd (cc) }
+
+or_failures_some : (codes : List ℕ) → IsCodeSet codes → IsSomeSet (or_failures codes)
+or_failures_some [] order = some_failures
+or_failures_some (code ∷ codes) order = record { order = order; some = λ none. absurd (cc) }
+
+-- codes that are not empty are what they are
+pub some_left : (codes : List ℕ) (empty : Bool) → (codes ≡ [] → empty ≡ true) → empty ≡ false → codes ≡ or_failures codes
+some_left [] empty is not_empty = absurd (let no : false ≡ true = sym not_empty ∙ is refl in cc)
+some_left (code ∷ codes) empty is not_empty = refl
+
+refused_some : (kind : Kind) (fact : Fact) → IsSomeSet (refused_answers kind fact)
+unfolding refused_answers
+refused_some kind fact = or_failures_some _ (in_order (λ code. is_in code (codes_in kind fact) && not (is_in code (0 ∷ 12 ∷ 25 ∷ []))))
 
 module _ (checks : Checks) (kind : Kind) where
   of_some : (fact : Fact) → IsSomeSet (answers_of checks kind fact)
@@ -56,11 +74,16 @@ module _ (checks : Checks) (kind : Kind) where
   of_some fact = or_failure_some _ (in_order (λ code. is_in code (codes_in kind fact) && not (is_in code (left_out checks fact.class))))
 
   module _ (rows : List Row) (there : Option (List (List ℕ))) where
+    called_some : (m : ModuleText) → IsSomeSet (called_answers checks kind rows m)
+    called_some m =
+        let fact = fact_of rows m.path m.arguments in
+        cond_both (always_fails rows kind m) (refused_answers kind fact) (answers_of checks kind fact) IsSomeSet
+        (λ _. refused_some kind fact) (λ _. of_some fact)
+
     module_some : (m : ModuleText) → IsSomeSet (module_answers checks kind rows there m)
     unfolding module_answers
     module_some m =
-        cond_both (is_there there m.path) (answers_of checks kind (fact_of rows m.path m.arguments)) (28 ∷ []) IsSomeSet
-        (λ _. of_some (fact_of rows m.path m.arguments)) (λ _. one_unknown)
+        cond_both (is_there there m.path) (called_answers checks kind rows m) (28 ∷ []) IsSomeSet (λ _. called_some m) (λ _. one_unknown)
 
     pub at_some : (items : Items) (number : ℕ) → IsSomeSet (answers_at checks kind rows there items number)
     unfolding answers_at

@@ -1,5 +1,6 @@
 pub mod AddSteps
 pub mod AnswerSteps
+pub mod ArgumentProofs
 pub mod CodeSteps
 pub mod FactSteps
 pub mod FolderSteps

@@ -7,16 +7,14 @@ use Rattle.std.specs.Option.{option_map_or}
 use Rattle.pam_text.specs.Source.{source_fault}
 use Rattle.pam_text.specs.declared.source.SourceFault.{SourceFault}
 use Rattle.pam_text.specs.declared.source.SourceFault.TheVariants as source
-use Rattle.pam_facts.specs.Codes.{codes_said}
 use Rattle.pam_facts.specs.Error.{TellsFault, error_at, source_error}
 use Rattle.pam_tables.specs.Lines.{lines_from}
 use Rattle.pam_facts.specs.Reading.{after_rows, onto_rows, row_if_any, rows_from, rows_in, rows_of}
-use Rattle.pam_facts.specs.Rows.{Head, Row, head_of, is_name, row_after, row_of, row_of_words, row_with}
+use Rattle.pam_facts.specs.Rows.{Row, is_name, or_bad, row_after, row_of, row_of_words}
 use Rattle.pam_facts.specs.Words.{words_of}
 use Rattle.pam_facts.specs.declared.error.FactsError.{FactsError}
 use Rattle.pam_facts.specs.declared.error.FactsFault.{FactsFault}
 use Rattle.pam_facts.specs.declared.error.FactsFault.TheVariants.{BadFact, Memory, NulByte, TooLong}
-use Rattle.pam_facts.specs.declared.row.CodesByKind.{CodesByKind}
 
 -- ---- a line
 
@@ -35,22 +33,11 @@ module _ (line : List ℕ) where
 
     module _ (name : List ℕ) (words : List (List ℕ)) (e : words_of line ≡ name ∷ words) where
       pub bad_name : is_name name ≡ false → row_of line ≡ Err BadFact
-      bad_name h = said (name ∷ words) e ∙ ap (λ (t : Bool). if t then row_after name (head_of 2 words) else Err BadFact) h
+      bad_name h = said (name ∷ words) e ∙ ap (λ (t : Bool). if t then or_bad (row_after name words) else Err BadFact) h
 
-      module _ (good : is_name name ≡ true) where
-        after : row_of line ≡ row_after name (head_of 2 words)
-        after = said (name ∷ words) e ∙ ap (λ (t : Bool). if t then row_after name (head_of 2 words) else Err BadFact) good
-
-        pub no_head : None ≡ head_of 2 words → row_of line ≡ Err BadFact
-        no_head h = after ∙ ap (row_after name) (sym h)
-
-        module _ (head : Head) (is : Some head ≡ head_of 2 words) where
-          pub no_codes : None ≡ codes_said head.rest → row_of line ≡ Err BadFact
-          no_codes h = after ∙ ap (row_after name) (sym is) ∙ ap (row_with name head) (sym h)
-
-          pub with_codes : (said : CodesByKind) → Some said ≡ codes_said head.rest →
-              row_of line ≡ Ok (Some (record { name = name; arguments = head.arguments; fact = record { class = head.class; codes = said } }))
-          with_codes said h = after ∙ ap (row_after name) (sym is) ∙ ap (row_with name head) (sym h)
+      pub named : is_name name ≡ true → (row : Option Row) → row ≡ row_after name words → row_of line ≡ or_bad row
+      named good row is =
+          said (name ∷ words) e ∙ ap (λ (t : Bool). if t then or_bad (row_after name words) else Err BadFact) good ∙ ap or_bad (sym is)
 
 -- ---- line by line
 

@@ -10,6 +10,7 @@ use Rattle.pam_conf.specs.declared.rule.Kind.{Kind}
 use Rattle.pam_paths.specs.Known.{may_answer}
 use Rattle.pam_paths.specs.declared.knowledge.Known.{Known}
 use Rattle.pam_facts.specs.Facts.{codes_in}
+use Rattle.pam_facts.specs.Failing.{always_fails, failures}
 use Rattle.pam_facts.specs.Fitting.{fact_of}
 use Rattle.pam_facts.specs.Rows.{Row}
 use Rattle.pam_facts.specs.declared.answers.Checks.{Checks}
@@ -35,7 +36,7 @@ abbrev pub or_failure : List ℕ → List ℕ
 or_failure [] = auth_err ∷ []
 or_failure (code ∷ codes) = code ∷ codes
 
--- the answers of a module that is there
+-- the answers that its row leaves a module
 unfoldable pub answers_of : Checks → Kind → Fact → List ℕ
 answers_of checks kind fact = or_failure (codes_where (λ code. is_in code (codes_in kind fact) && not (is_in code (left_out checks fact.class))))
 
@@ -43,10 +44,25 @@ answers_of checks kind fact = or_failure (codes_where (λ code. is_in code (code
 abbrev pub is_there : Option (List (List ℕ)) → List ℕ → Bool
 is_there there path = option_map_or (λ paths. list_any (λ known. bytes_eq known path) paths) there true
 
+-- the answers of a module that always fails by what its arguments are: the failures among those of its row, or each if there is none
+abbrev pub or_failures : List ℕ → List ℕ
+or_failures [] = failures
+or_failures (code ∷ codes) = code ∷ codes
+
+unfoldable pub refused_answers : Kind → Fact → List ℕ
+refused_answers kind fact =
+    or_failures (codes_where (λ code. is_in code (codes_in kind fact) && not (is_in code (success ∷ new_authtok_reqd ∷ ignored ∷ []))))
+
+-- the answers of a module that is there
+abbrev pub called_answers : Checks → Kind → List Row → ModuleText → List ℕ
+called_answers checks kind rows m =
+    let fact = fact_of rows m.path m.arguments in
+    if always_fails rows kind m then refused_answers kind fact else answers_of checks kind fact
+
 -- THE ANSWERS of a module: module_unknown if it is not there
 unfoldable pub module_answers : Checks → Kind → List Row → Option (List (List ℕ)) → ModuleText → List ℕ
 module_answers checks kind rows there m =
-    if is_there there m.path then answers_of checks kind (fact_of rows m.path m.arguments) else module_unknown ∷ []
+    if is_there there m.path then called_answers checks kind rows m else module_unknown ∷ []
 
 -- the same, by the number of the module
 unfoldable pub answers_at : Checks → Kind → List Row → Option (List (List ℕ)) → Items → ℕ → List ℕ

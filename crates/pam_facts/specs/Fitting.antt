@@ -1,5 +1,5 @@
 -- The row that counts for a module.
-use Rattle.std.specs.Prelude.{ℕ, ◌&&◌, Bool, false, nat_eq, List, [], ◌∷◌, codes, if◌then◌else◌}
+use Rattle.std.specs.Prelude.{ℕ, ◌&&◌, Bool, false, nat_eq, List, [], ◌∷◌, codes, if◌then◌else◌, is_none}
 use Rattle.std.specs.List.{ends_with, list_all, list_any, starts_with}
 use Rattle.std.specs.Option.{option_map_or}
 use Rattle.std.specs.Str.{bytes_eq}
@@ -13,9 +13,10 @@ use Rattle.pam_facts.specs.declared.row.Fact.{Fact}
 abbrev pub argument_fits : List ℕ → List ℕ → Bool
 argument_fits wanted argument = if ends_with nat_eq wanted (codes "=") then starts_with nat_eq argument wanted else bytes_eq argument wanted
 
--- a row fits a module of its name that has each of its arguments
+-- a row with a class fits a module of its name that has each of its arguments
 abbrev pub fits : List ℕ → List (List ℕ) → Row → Bool
-fits name arguments row = bytes_eq row.name name && list_all (λ wanted. list_any (argument_fits wanted) arguments) row.arguments
+fits name arguments row =
+    is_none row.knows && (bytes_eq row.name name && list_all (λ wanted. list_any (argument_fits wanted) arguments) row.arguments)
 
 -- the fact of the last row that fits, or else this one
 abbrev pub last_fact : (Row → Bool) → Fact → List Row → Fact

@@ -11,6 +11,9 @@ use Rattle.pam_facts.specs.declared.kinds.Kinds.{Kinds}
 abbrev pub no_kinds : Kinds
 no_kinds = record { auth = false; account = false; password = false; session = false }
 
+abbrev pub all_kinds : Kinds
+all_kinds = record { auth = true; account = true; password = true; session = true }
+
 abbrev pub has_kind : Kind → Kinds → Bool
 has_kind Auth kinds = kinds.auth
 has_kind Account kinds = kinds.account

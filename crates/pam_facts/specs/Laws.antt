@@ -1,11 +1,12 @@
 -- Laws of facts.
-use Rattle.std.specs.Prelude.{◌≡◌, ℕ, Bool, false, List, [], ◌∷◌, ◌++◌, if◌then◌else◌, Option}
+use Rattle.std.specs.Prelude.{◌≡◌, ℕ, Bool, true, false, List, [], ◌∷◌, ◌++◌, if◌then◌else◌, Option}
 use Rattle.pam_codes.specs.Code.{ignored, module_unknown, new_authtok_reqd, success}
 use Rattle.pam_codes.specs.Set.{is_in}
 use Rattle.pam_conf.specs.Stack.{ModuleText}
 use Rattle.pam_conf.specs.declared.rule.Kind.{Kind}
 use Rattle.pam_facts.specs.Answers.{is_there, module_answers}
 use Rattle.pam_facts.specs.Facts.{has_function, unknown}
+use Rattle.pam_facts.specs.Failing.{always_fails}
 use Rattle.pam_facts.specs.Fitting.{fact_of, has_row, last_fact}
 use Rattle.pam_facts.specs.Rows.{Row}
 use Rattle.pam_facts.specs.declared.answers.Checks.{Checks}
@@ -53,3 +54,14 @@ abbrev pub FunctionlessIsUnknown : Type 0
 FunctionlessIsUnknown =
     (checks : Checks) (kind : Kind) (rows : List Row) (there : Option (List (List ℕ))) (m : ModuleText) →
     has_function kind (fact_of rows m.path m.arguments) ≡ false → module_answers checks kind rows there m ≡ module_unknown ∷ []
+
+-- a module that always fails by what its arguments are has no success among its answers, nor ignore
+pub record AnswersFailures (answers : List ℕ) : Type 0 where
+  pub success : is_in success answers ≡ false
+  pub new_token : is_in new_authtok_reqd answers ≡ false
+  pub ignored : is_in ignored answers ≡ false
+
+abbrev pub ArgumentsFail : Type 0
+ArgumentsFail =
+    (checks : Checks) (kind : Kind) (rows : List Row) (there : Option (List (List ℕ))) (m : ModuleText) → always_fails rows kind m ≡ true →
+    AnswersFailures (module_answers checks kind rows there m)

@@ -2,8 +2,10 @@ pub mod Answers
 pub mod Codes
 pub mod Error
 pub mod Facts
+pub mod Failing
 pub mod Fitting
 pub mod Kinds
+pub mod Knowing
 pub mod Laws
 pub mod Missing
 pub mod Options
@@ -13,6 +15,7 @@ pub mod Rows
 pub mod Table
 pub mod Views
 pub mod Words
+pub mod arguments
 pub mod inner
 pub mod known
 pub mod settings

@@ -1,6 +1,7 @@
 -- The program's table of facts, a row for each module or for some of its arguments; docs/FACTS.md has the sources.
 use Rattle.std.specs.Prelude.{ℕ, List, [], ◌∷◌, ◌++◌, codes, map}
 use Rattle.std.specs.List.{concat}
+use Rattle.pam_facts.specs.arguments.Texts.{arguments_text}
 
 -- THE TABLE, in the order of names
 unfoldable pub table : List (List ℕ)
@@ -14,6 +15,7 @@ table =
     ∷ codes "pam_biometric checks account,password,session module_unknown"
     ∷ codes "pam_canonicalize_user fails account,password,session module_unknown"
     ∷ codes "pam_cap passes account,password,session module_unknown"
+    ∷ codes "pam_cap autoauth passes auth success account,password,session module_unknown"
     ∷ codes "pam_ccreds checks account,password,session module_unknown"
     ∷ codes "pam_ccreds action=store passes account,password,session module_unknown"
     ∷ codes "pam_ccreds action=update passes account,password,session module_unknown"
@@ -43,7 +45,11 @@ table =
     ∷ codes "pam_exec type=open_session passes auth,account ignore password success ignore"
     ∷ codes "pam_exec type=password passes auth,account,session ignore"
     ∷ codes "pam_faildelay passes auth ignore account,password,session module_unknown"
-    ∷ codes "pam_faillock passes password,session module_unknown"
+    ∷ (codes "pam_faillock passes account success open_err symbol_err service_err system_err buf_err perm_denied "
+    ++ codes "cred_insufficient authinfo_unavail user_unknown maxtries new_authtok_reqd acct_expired session_err "
+    ++ codes "cred_unavail cred_expired cred_err no_module_data conv_err authtok_err authtok_recover_err "
+    ++ codes "authtok_lock_busy authtok_disable_aging try_again ignore abort authtok_expired module_unknown "
+    ++ codes "bad_item conv_again password,session module_unknown")
     ∷ codes "pam_filter passes"
     ∷ codes "pam_fingwit passes"
     ∷ codes "pam_fprintd checks account,session module_unknown"
@@ -71,7 +77,7 @@ table =
     ∷ codes "pam_listfile passes auth,account,password,session service_err"
     ∷ codes "pam_listfile file= passes"
     ∷ codes "pam_listfile onerr=succeed passes"
-    ∷ codes "pam_localuser passes"
+    ∷ codes "pam_localuser passes auth,account,password,session success perm_denied service_err conv_err conv_again abort buf_err system_err user_unknown"
     ∷ codes "pam_loginuid passes auth,password module_unknown"
     ∷ codes "pam_mail passes auth ignore account,password module_unknown"
     ∷ codes "pam_mkhomedir passes auth,account,password module_unknown"
@@ -86,7 +92,7 @@ table =
     ∷ codes "pam_otpw checks account,password module_unknown"
     ∷ codes "pam_p11 checks"
     ∷ codes "pam_passwdqc passes auth,account,session module_unknown"
-    ∷ codes "pam_permit passes account,password,session success"
+    ∷ codes "pam_permit passes auth success conv_err conv_again abort buf_err system_err user_unknown account,password,session success"
     ∷ codes "pam_pkcs11 checks"
     ∷ codes "pam_pkcs11 wait_for_card ignores"
     ∷ codes "pam_poldi checks account,password,session module_unknown"
@@ -156,3 +162,7 @@ table =
 -- the table as a facts file
 unfoldable pub table_text : List ℕ
 table_text = concat (map (λ row. row ++ codes "\n") table)
+
+-- ALL THAT IS KNOWN, as a facts file: the table, and then the arguments that modules know
+unfoldable pub facts_text : List ℕ
+facts_text = table_text ++ arguments_text

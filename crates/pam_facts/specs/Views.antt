@@ -13,4 +13,4 @@ abbrev pub arguments_view : Arguments → List (List ℕ)
 arguments_view arguments = texts_of arguments.first ++ texts_of arguments.second
 
 abbrev pub row_view : Row → RowText
-row_view row = record { name = row.name.now; arguments = arguments_view row.arguments; fact = row.fact }
+row_view row = record { name = row.name.now; arguments = arguments_view row.arguments; fact = row.fact; knows = row.knows }

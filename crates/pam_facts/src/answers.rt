@@ -8,10 +8,11 @@ ghost use Rattle.pam_codes.specs.Code.{auth_err, ignored, module_unknown, new_au
 ghost use Rattle.pam_conf.specs.ItemsOf.{module_text};
 ghost use Rattle.pam_conf.specs.Stack.{module_count};
 ghost use Rattle.pam_paths.specs.Known.{set_for};
-ghost use Rattle.pam_facts.specs.Answers.{Allows, answers_at, answers_of, is_there, left_out, module_answers, successes};
+ghost use Rattle.pam_facts.specs.Answers.{Allows, answers_at, answers_of, is_there, left_out, module_answers, refused_answers, successes};
 ghost use Rattle.pam_facts.specs.declared.answers.Checks.TheVariants.{Fail, MaySucceed};
 
 use crate::facts::Facts;
+use crate::failing::failures;
 use crate::row::{Class, Fact};
 use pam_codes::{Code, CodeSet};
 use pam_conf::{Kind, Module, NameList, Stack};
@@ -66,7 +67,7 @@ fn left_out(checks: Checks, class: Class) -> CodeSet
     }
 }
 
-/// The answers of a module that is there.
+/// The answers that its row leaves a module.
 #[tactic(auto, unfolding(crate::specs::Answers::answers_of))]
 fn answers_of(checks: Checks, kind: Kind, fact: Fact) -> CodeSet
     ensures { result ≡ answers_of checks kind fact }
@@ -75,6 +76,18 @@ fn answers_of(checks: Checks, kind: Kind, fact: Fact) -> CodeSet
     let codes = fact.codes_in(kind).without(left_out);
     if codes.is_empty() {
         return failure();
+    }
+    codes
+}
+
+/// The answers of a module that always fails by what its arguments are.
+#[tactic(auto, unfolding(crate::specs::Answers::refused_answers))]
+fn refused_answers(kind: Kind, fact: Fact) -> CodeSet
+    ensures { result ≡ refused_answers kind fact }
+{
+    let codes = fact.codes_in(kind).without(successes_and_ignore());
+    if codes.is_empty() {
+        return failures();
     }
     codes
 }
@@ -114,6 +127,9 @@ impl Question<'_, '_> {
             return module_unknown();
         }
         let fact = self.facts.of(&module.path, &module.arguments);
+        if self.facts.always_fails(self.kind, module) {
+            return refused_answers(self.kind, fact);
+        }
         answers_of(self.checks, self.kind, fact)
     }
 
@@ -139,7 +155,8 @@ impl Question<'_, '_> {
 }
 
 impl Facts<'_> {
-    /// The codes that the modules of a stack of this kind can answer. `there` has the paths at which a module is there, as
+    /// The codes that the modules of a stack of this kind can answer. Of one that always fails by what
+    /// its arguments are, `success`, `new_authtok_reqd` and `ignore` are left out, whatever its row says. `there` has the paths at which a module is there, as
     /// rules write them; `None` if that is not known, and then each is taken to be there.
     pub fn answers(&self, stack: &Stack, kind: Kind, there: Option<&NameList>) -> Known
         ensures { Allows (module_count stack.now) result (answers_at MaySucceed kind self.now (option_map (λ t. t.now) there.entry) stack.now) }

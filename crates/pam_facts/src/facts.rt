@@ -1,20 +1,28 @@
 //! What is known of modules.
 
-ghost use Rattle.std.specs.Prelude.{◌≡◌, IfOk, map};
+ghost use Rattle.std.specs.Prelude.{◌≡◌, IfOk, false, map};
 ghost use Rattle.std.specs.List.{list_all, list_any, take_while};
+ghost use Rattle.std.specs.Option.{option_map_or};
+ghost use Rattle.pam_conf.specs.ItemsOf.{module_text};
 ghost use Rattle.pam_facts.specs.Error.{Gives};
 ghost use Rattle.pam_facts.specs.Fitting.{argument_fits, fact_of, fits, has_row, last_fact};
 ghost use Rattle.pam_facts.specs.Facts.{unknown};
+ghost use Rattle.pam_facts.specs.Kinds.{has_kind};
+ghost use Rattle.pam_facts.specs.Knowing.{is_known, meaning_of, says_known};
+ghost use Rattle.pam_facts.specs.arguments.Views.{module_view, verdict_view};
 ghost use Rattle.pam_facts.specs.Options.{arguments_read, is_option};
 ghost use Rattle.pam_facts.specs.Reading.{known_rows};
 ghost use Rattle.pam_facts.specs.Views.{row_view, texts_of};
 
+use crate::arguments::{Arguments, Module as KnownModule, Verdict};
 use crate::error::FactsError;
+use crate::kinds::Kinds;
 use crate::names::names_of;
 use crate::options::is_option;
 use crate::paths::module_name;
 use crate::reading::{Row, add_file, add_table};
 use crate::row::Fact;
+use pam_conf::{Kind, Module};
 use pam_text::Texts;
 use std::alloc::{AllocError, Global};
 use std::marker::Model;
@@ -25,11 +33,16 @@ use std::marker::Model;
 /// that of a module, without folder and `.so`. CLASS is `checks`, `ignores`, `passes` or `fails`. The row fits the rules of
 /// this module that have each ARGUMENT; one that ends in `=` matches each argument that begins with it. The codes are all
 /// that the module can answer in these kinds; where no codes are given, it can answer any. Of the rows that fit a rule the
-/// last counts, and it counts alone. Lines that begin with `#` and blank lines are skipped. The case of kinds and codes is
-/// ignored.
+/// last counts, and it counts alone.
+///
+/// A line `NAME knows ARGUMENT [KIND,...]` says that the module knows an argument in these kinds, or in all. One that ends in `=`
+/// is each that begins with it. Such a line tells nothing else of the module.
+///
+/// Lines that begin with `#` and blank lines are skipped. The case of kinds and codes is ignored.
 #[derive(Drop)]
 pub struct Facts<'a> {
     rows: Vec<Row<'a>>,
+    arguments: Arguments,
 }
 
 impl<'a> Model for Facts<'a> {
@@ -86,11 +99,12 @@ fn has_wanted(name: &[u8], wanted: Option<&[u8]>, arguments: &Texts) -> bool
     }
 }
 
-/// Whether a row fits a module of this name with these arguments.
+/// Whether a row with a class fits a module of this name with these arguments.
 fn fits(name: &[u8], arguments: &Texts, row: &Row<'_>) -> bool
     ensures { result ≡ fits name.now (arguments_read name.now arguments.now) (row_view row.now) }
 {
-    row.name == name
+    row.knows.is_none()
+        && row.name == name
         && has_wanted(name, row.arguments.first, arguments)
         && has_wanted(name, row.arguments.second, arguments)
 }
@@ -106,6 +120,46 @@ fn last_fact(name: &[u8], arguments: &Texts, rows: &[Row<'_>]) -> Fact
         }
     }
     fact
+}
+
+/// Whether a word is the argument that is wanted, if one is.
+fn is_wanted(wanted: Option<&[u8]>, word: &[u8]) -> bool
+    ensures { result ≡ list_any (λ w. argument_fits w word.now) (texts_of wanted.entry) }
+{
+    match wanted {
+        Some(wanted) => argument_fits(wanted, word),
+        None => false,
+    }
+}
+
+fn is_of_kind(kinds: Option<Kinds>, kind: Kind) -> bool
+    ensures { result ≡ option_map_or (has_kind kind) kinds false }
+{
+    match kinds {
+        Some(kinds) => kinds.has(kind),
+        None => false,
+    }
+}
+
+/// Whether a row says that a module of this name knows a word of a rule of this kind.
+fn says_known(name: &[u8], kind: Kind, word: &[u8], row: &Row<'_>) -> bool
+    ensures { result ≡ says_known name.now kind word.now (row_view row.now) }
+{
+    row.name == name
+        && is_of_kind(row.knows, kind)
+        && (is_wanted(row.arguments.first, word) || is_wanted(row.arguments.second, word))
+}
+
+/// Whether some row says so.
+fn some_says_known(name: &[u8], kind: Kind, word: &[u8], rows: &[Row<'_>]) -> bool
+    ensures { result ≡ list_any (says_known name.now kind word.now) (map row_view rows.now) }
+{
+    for row in rows {
+        if says_known(name, kind, word, row) {
+            return true;
+        }
+    }
+    false
 }
 
 /// Whether some row fits.
@@ -132,7 +186,8 @@ impl<'a> Facts<'a> {
         let mut rows = Vec::new(alloc);
         add_table(&mut rows)?;
         add_file(file, &mut rows)?;
-        Ok(Facts { rows })
+        let arguments = Arguments::table(alloc)?;
+        Ok(Facts { rows, arguments })
     }
 
     /// What is known of the module at a path, for the arguments of its rule that it reads.
@@ -154,6 +209,45 @@ impl<'a> Facts<'a> {
             Some(name) => some_fits(name, arguments, &self.rows),
             None => false,
         }
+    }
+
+    /// Whether a row says that the module at a path knows a word of a rule of this kind.
+    fn is_known(&self, path: &[u8], kind: Kind, word: &[u8]) -> bool
+        ensures { result ≡ is_known self.now path.now kind word.now }
+    {
+        match module_name(path) {
+            Some(name) => some_says_known(name, kind, word, &self.rows),
+            None => false,
+        }
+    }
+
+    /// What the module of a rule of this kind makes of a word, where this is known of its arguments.
+    pub fn judge<'t>(
+        &self,
+        known: &KnownModule<'t>,
+        kind: Kind,
+        module: &Module,
+        word: &[u8],
+    ) -> Verdict<'t>
+        ensures { verdict_view result ≡ meaning_of self.now kind (module_text «module».now) (module_view known.now) word.now }
+    {
+        let verdict = known.judge(kind, word);
+        match verdict {
+            Verdict::Known | Verdict::Free | Verdict::Weak => verdict,
+            Verdict::Longer(_) | Verdict::OtherKind | Verdict::BadValue(_) | Verdict::Unknown(_) =>
+                {
+                    if self.is_known(&module.path, kind, word) {
+                        Verdict::Known
+                    } else {
+                        verdict
+                    }
+                }
+        }
+    }
+
+    /// What is known of the arguments of modules, without what the rows say.
+    pub fn arguments(&self) -> &Arguments {
+        &self.arguments
     }
 
     /// The name of the module of each row, in the order of the rows. A module that several rows are about is there as often.

@@ -3,7 +3,7 @@
 ghost use Rattle.std.specs.Prelude.{◌≡◌};
 ghost use Rattle.std.specs.Option.{option_map};
 ghost use Rattle.std.specs.Iterator.{YieldsFirstRef, item_count};
-ghost use Rattle.pam_facts.specs.Kinds.{kinds_named, names_in, no_kinds, with_kind};
+ghost use Rattle.pam_facts.specs.Kinds.{all_kinds, has_kind, kinds_named, names_in, no_kinds, with_kind};
 ghost use Rattle.pam_facts.specs.inner.Kinds.{names_left};
 
 use pam_conf::Kind;
@@ -64,6 +64,30 @@ impl Kinds {
             account: false,
             password: false,
             session: false,
+        }
+    }
+
+    /// All four kinds.
+    pub(crate) fn all() -> Kinds
+        ensures { result ≡ all_kinds }
+    {
+        Kinds {
+            auth: true,
+            account: true,
+            password: true,
+            session: true,
+        }
+    }
+
+    /// Whether this kind is there.
+    pub(crate) fn has(self, kind: Kind) -> bool
+        ensures { result ≡ has_kind kind self }
+    {
+        match kind {
+            Kind::Auth => self.auth,
+            Kind::Account => self.account,
+            Kind::Password => self.password,
+            Kind::Session => self.session,
         }
     }
 

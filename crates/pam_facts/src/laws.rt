@@ -1,6 +1,7 @@
 //! Laws of the definitions: each is the contract of an empty function.
 
-ghost use Rattle.pam_facts.specs.Laws.{CheckingModulesFail, FunctionlessIsUnknown, LastRowCounts, MissingIsUnknown, NoRowIsUnknown, TwiceIsOnce};
+ghost use Rattle.pam_facts.specs.Laws.{ArgumentsFail, CheckingModulesFail, FunctionlessIsUnknown, LastRowCounts, MissingIsUnknown};
+ghost use Rattle.pam_facts.specs.Laws.{NoRowIsUnknown, TwiceIsOnce};
 
 /// A row that fits counts if no later one does, whatever the rows before it say; a row that does not fit changes nothing.
 /// So rows that are read again after themselves, as those that `write_facts` writes, change nothing.
@@ -23,4 +24,9 @@ pub fn checks_fail()
 pub fn no_function()
     ensures missing { MissingIsUnknown }
     ensures functionless { FunctionlessIsUnknown }
+{}
+
+/// A module that always fails by what its arguments are answers no success and no `ignore`, whatever its row says.
+pub fn arguments_fail()
+    ensures { ArgumentsFail }
 {}

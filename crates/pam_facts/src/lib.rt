@@ -3,8 +3,10 @@
 #![tactic(auto)]
 
 mod answers;
+pub mod arguments;
 mod error;
 mod facts;
+mod failing;
 mod folder;
 mod head;
 mod kinds;

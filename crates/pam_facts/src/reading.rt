@@ -7,7 +7,7 @@ ghost use Rattle.pam_facts.specs.Error.{Gives, no_memory};
 ghost use Rattle.pam_facts.specs.inner.Error.{GivesPart};
 ghost use Rattle.pam_facts.specs.Reading.{after_rows, rows_in, rows_of, table_rows};
 ghost use Rattle.pam_facts.specs.inner.Reading.{unless_memory, with_row};
-ghost use Rattle.pam_facts.specs.Rows.{is_name, row_of};
+ghost use Rattle.pam_facts.specs.Rows.{is_name, kinds_after, row_after, row_of, row_with_argument, row_with_class};
 ghost use Rattle.pam_facts.specs.Views.{row_view};
 ghost use Rattle.pam_facts.specs.Words.{words_of};
 
@@ -21,12 +21,14 @@ use pam_codes::Code;
 use pam_tables::parts::Lines;
 use pam_text::Source;
 
-/// What is known of a module, where its rule has some arguments.
+/// What is known of a module, where its rule has some arguments; or an argument that it knows.
 #[derive(Clone, Copy)]
 pub(crate) struct Row<'a> {
     pub(crate) name: &'a [u8],
     pub(crate) arguments: Arguments<'a>,
     pub(crate) fact: Fact,
+    /// The kinds in which the module knows the argument, if the row is about one.
+    pub(crate) knows: Option<Kinds>,
 }
 
 /// The codes that the words of a row say, from its class on.
@@ -61,6 +63,67 @@ fn is_name(word: &[u8]) -> bool
     !word.contains(&b'/') && !word.ends_with(b".so")
 }
 
+/// The row of a module with a class, from the words after its name.
+fn row_with_class<'a>(name: &'a [u8], text: &'a [u8]) -> Option<Row<'a>>
+    ensures { option_map row_view result ≡ row_with_class name.now (words_of text.now) }
+{
+    let head = read_head(text)?;
+    let codes = read_codes(head.rest)?;
+    let fact = Fact {
+        class: head.class,
+        codes,
+    };
+    Some(Row {
+        name,
+        arguments: head.arguments,
+        fact,
+        knows: None,
+    })
+}
+
+/// The kinds in which a row says that a module knows an argument, from the words after it.
+fn kinds_after(text: &[u8]) -> Option<Kinds>
+    ensures { result ≡ kinds_after (words_of text.now) }
+{
+    let Some((word, rest)) = first_word(text) else {
+        return Some(Kinds::all());
+    };
+    match first_word(rest) {
+        Some(_) => None,
+        None => Kinds::named(word),
+    }
+}
+
+/// The row of an argument that a module knows, from the words after `knows`.
+fn row_with_argument<'a>(name: &'a [u8], text: &'a [u8]) -> Option<Row<'a>>
+    ensures { option_map row_view result ≡ row_with_argument name.now (words_of text.now) }
+{
+    let (argument, rest) = first_word(text)?;
+    let kinds = kinds_after(rest)?;
+    let arguments = Arguments {
+        first: Some(argument),
+        second: None,
+    };
+    Some(Row {
+        name,
+        arguments,
+        fact: Fact::unknown(),
+        knows: Some(kinds),
+    })
+}
+
+/// The row of a line, from the words after its name.
+fn row_after<'a>(name: &'a [u8], text: &'a [u8]) -> Option<Row<'a>>
+    ensures { option_map row_view result ≡ row_after name.now (words_of text.now) }
+{
+    let (word, rest) = first_word(text)?;
+    if word == b"knows".as_slice() {
+        row_with_argument(name, rest)
+    } else {
+        row_with_class(name, text)
+    }
+}
+
 /// Reads a line. Returns `Ok(None)` for a comment or a blank line.
 pub(crate) fn read_row(line: &[u8]) -> Result<Option<Row<'_>>, FactsFault>
     ensures { MatchResult result (λ row. row_of line.now ≡ Ok (option_map row_view row)) (λ fault. row_of line.now ≡ Err fault) }
@@ -74,21 +137,10 @@ pub(crate) fn read_row(line: &[u8]) -> Result<Option<Row<'_>>, FactsFault>
     if !is_name(name) {
         return Err(FactsFault::BadFact);
     }
-    let Some(head) = read_head(text) else {
-        return Err(FactsFault::BadFact);
-    };
-    let Some(codes) = read_codes(head.rest) else {
-        return Err(FactsFault::BadFact);
-    };
-    let fact = Fact {
-        class: head.class,
-        codes,
-    };
-    Ok(Some(Row {
-        name,
-        arguments: head.arguments,
-        fact,
-    }))
+    match row_after(name, text) {
+        Some(row) => Ok(Some(row)),
+        None => Err(FactsFault::BadFact),
+    }
 }
 
 /// Adds the row of a line, if it has one. Where it fails, the rows stay as they are.

@@ -1,9 +1,10 @@
 //! The program's table of facts.
 
 ghost use Rattle.std.specs.Prelude.{◌≡◌};
-ghost use Rattle.pam_facts.specs.Table.{table_text};
+ghost use Rattle.pam_facts.specs.Table.{facts_text, table_text};
 ghost use Rattle.pam_text.specs.Out.{Writes};
 
+use crate::arguments::write_arguments;
 use pam_text::{Device, Out};
 use std::io::Write;
 
@@ -19,6 +20,7 @@ const TABLE: &[u8] = b"\
     pam_biometric checks account,password,session module_unknown\n\
     pam_canonicalize_user fails account,password,session module_unknown\n\
     pam_cap passes account,password,session module_unknown\n\
+    pam_cap autoauth passes auth success account,password,session module_unknown\n\
     pam_ccreds checks account,password,session module_unknown\n\
     pam_ccreds action=store passes account,password,session module_unknown\n\
     pam_ccreds action=update passes account,password,session module_unknown\n\
@@ -48,7 +50,11 @@ const TABLE: &[u8] = b"\
     pam_exec type=open_session passes auth,account ignore password success ignore\n\
     pam_exec type=password passes auth,account,session ignore\n\
     pam_faildelay passes auth ignore account,password,session module_unknown\n\
-    pam_faillock passes password,session module_unknown\n\
+    pam_faillock passes account success open_err symbol_err service_err system_err buf_err perm_denied \
+        cred_insufficient authinfo_unavail user_unknown maxtries new_authtok_reqd acct_expired session_err \
+        cred_unavail cred_expired cred_err no_module_data conv_err authtok_err authtok_recover_err \
+        authtok_lock_busy authtok_disable_aging try_again ignore abort authtok_expired module_unknown \
+        bad_item conv_again password,session module_unknown\n\
     pam_filter passes\n\
     pam_fingwit passes\n\
     pam_fprintd checks account,session module_unknown\n\
@@ -76,7 +82,7 @@ const TABLE: &[u8] = b"\
     pam_listfile passes auth,account,password,session service_err\n\
     pam_listfile file= passes\n\
     pam_listfile onerr=succeed passes\n\
-    pam_localuser passes\n\
+    pam_localuser passes auth,account,password,session success perm_denied service_err conv_err conv_again abort buf_err system_err user_unknown\n\
     pam_loginuid passes auth,password module_unknown\n\
     pam_mail passes auth ignore account,password module_unknown\n\
     pam_mkhomedir passes auth,account,password module_unknown\n\
@@ -91,7 +97,7 @@ const TABLE: &[u8] = b"\
     pam_otpw checks account,password module_unknown\n\
     pam_p11 checks\n\
     pam_passwdqc passes auth,account,session module_unknown\n\
-    pam_permit passes account,password,session success\n\
+    pam_permit passes auth success conv_err conv_again abort buf_err system_err user_unknown account,password,session success\n\
     pam_pkcs11 checks\n\
     pam_pkcs11 wait_for_card ignores\n\
     pam_poldi checks account,password,session module_unknown\n\
@@ -166,9 +172,11 @@ pub(crate) fn table() -> &'static [u8]
     TABLE
 }
 
-/// Writes the table as a facts file, a row a line.
+/// Writes the table, and then the arguments that modules know, as a facts file, a row a line.
+#[tactic(auto, unfolding(crate::specs::Table::facts_text))]
 pub fn write_facts<W: Write>(out: &mut Out<W>) -> Result<(), Device>
-    ensures { Writes W.contents out.old out.new result table_text }
+    ensures { Writes W.contents out.old out.new result facts_text }
 {
-    out.put(table())
+    out.put(table())?;
+    write_arguments(out)
 }

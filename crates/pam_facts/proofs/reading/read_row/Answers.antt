@@ -1,5 +1,5 @@
 use Rattle.std.proofs.Common.{◌∙◌, sym}
-use Rattle.pam_facts.proofs.RowSteps.{bad_name, comment, no_codes, no_head, no_words, with_codes}
+use Rattle.pam_facts.proofs.RowSteps.{bad_name, comment, named, no_words}
 use Rattle.pam_facts.proofs.reading.read_row.Goals as goal
 
 pub returns-then-starts_with : goal.returns-then-starts_with
@@ -12,17 +12,12 @@ pub returns-then-not-is_name : goal.returns-then-not-is_name
 returns-then-not-is_name c =
     bad_name c.args.line.now (sym c.starts_with.ensures.value ∙ c.if-starts_with.false) _ _ c.in-Some.ensures (sym c.is_name.ensures ∙ c.if-not-is_name.true)
 
-pub returns-in_default-read_head : goal.returns-in_default-read_head
-returns-in_default-read_head c =
-    no_head c.args.line.now (sym c.starts_with.ensures.value ∙ c.if-starts_with.false) _ _ c.in-Some.ensures (sym c.is_name.ensures ∙ c.if-not-is_name.false)
-    c.in_default-read_head.ensures
+pub returns-in-Some-row_after : goal.returns-in-Some-row_after
+returns-in-Some-row_after c =
+    named c.args.line.now (sym c.starts_with.ensures.value ∙ c.if-starts_with.false) _ _ c.in-Some.ensures (sym c.is_name.ensures ∙ c.if-not-is_name.false)
+    _ c.in-Some-row_after.ensures
 
-pub returns-in_default-read_codes : goal.returns-in_default-read_codes
-returns-in_default-read_codes c =
-    no_codes c.args.line.now (sym c.starts_with.ensures.value ∙ c.if-starts_with.false) _ _ c.in-Some.ensures (sym c.is_name.ensures ∙ c.if-not-is_name.false)
-    _ c.in-Some-read_head.ensures c.in_default-read_codes.ensures
-
-pub returns : goal.returns
-returns c =
-    with_codes c.args.line.now (sym c.starts_with.ensures.value ∙ c.if-starts_with.false) _ _ c.in-Some.ensures (sym c.is_name.ensures ∙ c.if-not-is_name.false)
-    _ c.in-Some-read_head.ensures _ c.in-Some-read_codes.ensures
+pub returns-in-None : goal.returns-in-None
+returns-in-None c =
+    named c.args.line.now (sym c.starts_with.ensures.value ∙ c.if-starts_with.false) _ _ c.in-Some.ensures (sym c.is_name.ensures ∙ c.if-not-is_name.false)
+    _ c.in-None.ensures

@@ -1,5 +1,0 @@
-pub mod ConditionSteps
-pub mod CutSteps
-pub mod LawSteps
-pub mod TableSteps
-pub mod ValueSteps

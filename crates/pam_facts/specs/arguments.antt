@@ -1,0 +1,13 @@
+pub mod Calls
+pub mod Conditions
+pub mod Cuts
+pub mod Lacks
+pub mod Laws
+pub mod Modules
+pub mod Rows
+pub mod Table
+pub mod Texts
+pub mod Values
+pub mod Verdicts
+pub mod Views
+pub mod inner
