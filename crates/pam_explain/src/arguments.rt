@@ -208,6 +208,33 @@ const WEAK_HASH: Explanation = Explanation {
     ),
 };
 
+const MISSING_FILE: Explanation = Explanation {
+    number: "S24",
+    name: "MissingFile",
+    level: Level::Warning,
+    meaning: concat!(
+        "An argument of a rule names a file by an absolute path, and the system has\n",
+        "none there. Most modules then fail whoever asks, and pam_time and pam_duo let\n",
+        "everybody pass. Where pam_listfile has onerr=succeed, its file need not be\n",
+        "there. Files are looked for in a system alone, and not for a folder."
+    ),
+    example: concat!(
+        "# login\n",
+        "auth required pam_unix.so\n",
+        "account required pam_access.so accessfile=/etc/login.access\n",
+        "$ mkdir -p r/etc/pam.d; cp login other r/etc/pam.d\n",
+        "$ pamcheck check --root r"
+    ),
+    linux_pam: concat!(
+        "1.5.2 and 1.7.0 leave arguments to the modules. pam_access\n",
+        "answers abort, others service_err, and pam_time success."
+    ),
+    mending: concat!(
+        "make the file, or mend its path. For db= of pam_userdb the file\n",
+        "has the ending .db, which the argument leaves out."
+    ),
+};
+
 /// Returns the explanation at this index, or `None` past the last one. They are in the order of their numbers.
 pub(crate) fn of_arguments(row: usize) -> Option<&'static Explanation>
     ensures { option_map (λ e. explanation_view e.now) result ≡ slice_get of_arguments row }
@@ -222,6 +249,7 @@ pub(crate) fn of_arguments(row: usize) -> Option<&'static Explanation>
         6 => &STORED_THOUGH_REFUSED,
         7 => &NOT_COUNTED,
         8 => &WEAK_HASH,
+        9 => &MISSING_FILE,
         _ => return None,
     })
 }

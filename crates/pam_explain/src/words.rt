@@ -34,8 +34,9 @@ const SOURCE: Explanation = Explanation {
     ),
     mending: concat!(
         "give one of --dir, --conf and --root. --vendor-dir may stand\n",
-        "beside --dir. check may go without. compare takes two words, and\n",
-        "--conf or --root beside them, or neither."
+        "beside --dir. Only show, decide and paths need one; check, policy,\n",
+        "outcomes, graph and needs else read the running system. compare\n",
+        "takes two words, and --conf or --root beside them, or neither."
     ),
 };
 
