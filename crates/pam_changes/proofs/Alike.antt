@@ -8,6 +8,7 @@ use Rattle.pam_compare.specs.Same.{AreSame}
 use Rattle.pam_conf.specs.Stack.{End, Items, ModuleText, ThenModule, module_at, module_count}
 use Rattle.pam_conf.specs.declared.rule.Kind.{Kind}
 use Rattle.pam_facts.specs.Answers.{answers_at, free_answers, is_there, module_answers}
+use Rattle.pam_facts.specs.Failing.{always_fails}
 use Rattle.pam_facts.specs.Rows.{Row}
 use Rattle.pam_facts.specs.known.Answers.{name_of_path}
 use Rattle.pam_facts.specs.settings.Settings.{SettingText}
@@ -41,7 +42,7 @@ answers-alike kind rows there m n is =
 
 pub known-alike : (sides : SidesText) (side : SideText) (kind : Kind) (one other : Items) → AreSame one other → (number : ℕ) →
     known_codes sides side kind one number ≡ known_codes sides side kind other number
-unfolding answers_at known_codes told_at module_answers
+unfolding always_fails answers_at known_codes told_at module_answers
 known-alike sides side kind one other t number =
     let at = same-at number one other t in
     let told : ModuleText → Option (List ℕ) = codes_told sides.returns sides.settings side.there in
@@ -64,7 +65,7 @@ told-there sides m e = ap (λ (b : Bool). cond b (named sides.returns sides.sett
 
 answers-there : (sides : SidesText) (kind : Kind) (m : ModuleText) → is_there sides.old.there m.path ≡ is_there sides.new.there m.path →
     free_at kind sides.facts sides.old.there m ≡ free_at kind sides.facts sides.new.there m
-unfolding answers_at module_answers
+unfolding always_fails answers_at module_answers
 answers-there sides kind m e = ap (λ (b : Bool). cond b (free_at kind sides.facts None m) (module_unknown ∷ [])) e
 
 -- what is known of a module on a side
@@ -82,7 +83,7 @@ value-there sides kind (Some m) h =
 
 known-there : (sides : SidesText) (kind : Kind) (items : Items) (number : ℕ) → is_alike_at sides items number ≡ true →
     known_codes sides sides.old kind items number ≡ known_codes sides sides.new kind items number
-unfolding answers_at known_codes told_at module_answers
+unfolding always_fails answers_at known_codes told_at module_answers
 known-there sides kind items number h = value-there sides kind (module_at number items) h
 
 pub equal-alike : (sides : SidesText) (kind : Kind) (old new : Items) → AreEqual sides old new → (number : ℕ) → 1 ≤ number → number ≤ module_count old →

@@ -4,6 +4,7 @@ use Rattle.pam_compare.proofs.Matched.{is-matching}
 use Rattle.pam_compare.specs.Matching.{IsMatching, matching_of}
 use Rattle.pam_compare.specs.declared.change.Change.{Change}
 use Rattle.pam_compare.specs.declared.change.Change.TheVariants.{Admits, Refuses, Tells}
+use Rattle.pam_conf.specs.declared.rule.Kind.{Kind}
 use Rattle.pam_conf.specs.Stack.{Items, IsNumbered, module_count}
 use Rattle.pam_dispatch.proofs.Numbering.{AsksRise-stack}
 use Rattle.pam_dispatch.specs.Flat.{modules_of, runs_of}
@@ -28,11 +29,11 @@ any_shown_once partners old_answers new_answers old_asked new_asked modules matc
     shown-once partners old_answers new_answers old_asked new_asked modules matched rise within
 
 -- no two modules that answer alike have the same partner
-one-to-one : (sides : SidesText) (old new : Items) (partners : List (Option ℕ)) → partners ≡ matching_of old new →
-    IsOneToOne (alike_partners sides new partners)
-one-to-one sides old new partners is i j k e f =
+one-to-one : (sides : SidesText) (kind : Kind) (old new : Items) (partners : List (Option ℕ)) → partners ≡ matching_of old new →
+    IsOneToOne (alike_partners sides kind old new partners)
+one-to-one sides kind old new partners is i j k e f =
     let matching : IsMatching old new partners = subst (IsMatching old new) (sym is) (is-matching old new) in
-    matching.one_to_one i j k (alike-partner sides new partners j i e) (alike-partner sides new partners k i f)
+    matching.one_to_one i j k (alike-partner sides kind old new partners j i e) (alike-partner sides kind old new partners k i f)
 
 module _ (old new : Items) (partners : List (Option ℕ)) (matched : IsOneToOne partners) (old_numbered : IsNumbered old) (new_numbered : IsNumbered new)
     (old_program new_program : List FlatItem) (of_old : IsProgramOf old old_program) (of_new : IsProgramOf new new_program) where
@@ -62,8 +63,8 @@ module _ (old new : Items) (partners : List (Option ℕ)) (matched : IsOneToOne 
 pub of_pair_shown_once : AskedOfPairIsShownOnce
 of_pair_shown_once sides pair changes shown old_numbered new_numbered is known among =
     let c = is.decisions in
-    let partners = alike_partners sides pair.new pair.matching in
-    let matched = one-to-one sides pair.old pair.new pair.matching is.matching in
+    let partners = alike_partners sides pair.kind pair.old pair.new pair.matching in
+    let matched = one-to-one sides pair.kind pair.old pair.new pair.matching is.matching in
     let one : Allowance = may_answer c.old_known in
     let other : Allowance = may_answer c.new_known in
     let are : AreShown one other c.old_program c.new_program partners changes =

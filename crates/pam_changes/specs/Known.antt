@@ -1,5 +1,5 @@
 -- What is known of the answers of modules: pam.conf(5), DESCRIPTION.
-use Rattle.std.specs.Prelude.{◌≡◌, ℕ, ◌≤◌, ◌==◌, ◌&&◌, Bool, true, not, List, [], ◌∷◌, if◌then◌else◌, length, map, unwrap_or, Option, Some, None}
+use Rattle.std.specs.Prelude.{◌≡◌, ℕ, ◌≤◌, ◌==◌, ◌&&◌, Bool, true, false, not, List, [], ◌∷◌, if◌then◌else◌, is_none, length, map, unwrap_or, Option, Some, None}
 use Rattle.std.specs.List.{range_with_len}
 use Rattle.std.specs.Option.{option_map_or, option_or}
 use Rattle.std.specs.Str.{bytes_eq}
@@ -7,6 +7,7 @@ use Rattle.pam_compare.specs.Matching.{partner_of}
 use Rattle.pam_conf.specs.Stack.{Items, ModuleText, module_at, module_count}
 use Rattle.pam_conf.specs.declared.rule.Kind.{Kind}
 use Rattle.pam_facts.specs.Answers.{free_answers, is_there}
+use Rattle.pam_facts.specs.Failing.{always_fails}
 use Rattle.pam_facts.specs.known.Answers.{name_of_path}
 use Rattle.pam_facts.specs.settings.Settings.{SettingText}
 use Rattle.pam_tables.specs.Returns.{ReturnLine, codes_for}
@@ -56,11 +57,27 @@ unfoldable pub AreThereAlike : SidesText → Items → Type 0
 AreThereAlike sides items =
     (number : ℕ) → 1 ≤ number → number ≤ module_count items → is_alike_at sides items number ≡ true
 
--- the partner of a module of the new stack, if it is
-abbrev pub alike_partner : SidesText → Items → List (Option ℕ) → ℕ → Option ℕ
-alike_partner sides new partners number = if is_alike_at sides new number then partner_of partners number else None
+-- a module of which only facts tell always fails by what its arguments are
+abbrev pub fails_at : SidesText → SideText → Kind → Items → ℕ → Bool
+fails_at sides side kind items number =
+    is_none (told_at sides.returns sides.settings side.there items number)
+    && option_map_or (always_fails sides.facts kind) (module_at number items) false
 
--- THE MODULES THAT ANSWER ALIKE: those that are matched, and there in both configurations or in neither. Matched modules have one path,
--- so it is enough to ask for that of the new one
-unfoldable pub alike_partners : SidesText → Items → List (Option ℕ) → List (Option ℕ)
-alike_partners sides new partners = None ∷ map (alike_partner sides new partners) (range_with_len 1 (module_count new))
+-- a module of the old stack and one of the new stack do, or neither does
+abbrev pub fail_alike : SidesText → Kind → Items → Items → ℕ → ℕ → Bool
+fail_alike sides kind old new partner number =
+    if fails_at sides sides.old kind old partner then fails_at sides sides.new kind new number else not (fails_at sides sides.new kind new number)
+
+-- the partner of a module of the new stack, if both are there, or neither is, and both fail so, or neither does
+abbrev pub partner_alike : SidesText → Kind → Items → Items → Option ℕ → ℕ → Option ℕ
+partner_alike sides kind old new None number = None
+partner_alike sides kind old new (Some partner) number =
+    if is_alike_at sides new number && fail_alike sides kind old new partner number then Some partner else None
+
+abbrev pub alike_partner : SidesText → Kind → Items → Items → List (Option ℕ) → ℕ → Option ℕ
+alike_partner sides kind old new partners number = partner_alike sides kind old new (partner_of partners number) number
+
+-- THE MODULES THAT ANSWER ALIKE: those that are matched, are there in both configurations or in neither, and always fail by what their
+-- arguments are in both or in neither. Matched modules have one path, so it is enough to ask whether that of the new one is there
+unfoldable pub alike_partners : SidesText → Kind → Items → Items → List (Option ℕ) → List (Option ℕ)
+alike_partners sides kind old new partners = None ∷ map (alike_partner sides kind old new partners) (range_with_len 1 (module_count new))

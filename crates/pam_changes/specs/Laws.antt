@@ -48,6 +48,6 @@ AskedOfPairIsShownOnce =
     IsNumbered pair.old → IsNumbered pair.new → IsPair sides pair → pair.decisions ≡ Known changes → IsAmong changes shown →
     let old_answers = answers_of shown.witness.old_codes.items in
     let new_answers = answers_of shown.witness.new_codes.items in
-    AreShownOnce (alike_partners sides pair.new pair.matching) old_answers new_answers
+    AreShownOnce (alike_partners sides pair.kind pair.old pair.new pair.matching) old_answers new_answers
     (asked_numbers (runs_of_stack pair.old) old_answers) (asked_numbers (runs_of_stack pair.new) new_answers) (module_count pair.new)
     shown.asked.items

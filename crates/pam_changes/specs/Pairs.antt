@@ -54,7 +54,7 @@ module _ (old_allows new_allows : Allowance) (old new : List FlatItem) (partners
   AreDecisions decisions.NotKnown = HasMoreSituations old_allows new_allows old new partners MAX_SITUATIONS
 
 -- HOW THE DECISIONS OF TWO STACKS DIFFER, for all answers that are known to be possible. Of matched modules one of which is there and
--- the other is not, each answers for itself
+-- the other is not, or always fails by what its arguments are and the other does not, each answers for itself
 pub record IsCompared (sides : SidesText) (kind : Kind) (old new : Items) (partners : List (Option ℕ)) (told : Decisions) : Type 0 where
   pub old_known : Known
   pub new_known : Known
@@ -64,7 +64,7 @@ pub record IsCompared (sides : SidesText) (kind : Kind) (old new : Items) (partn
   pub new_program : List FlatItem
   pub of_old : IsProgramOf old old_program
   pub of_new : IsProgramOf new new_program
-  pub decisions : AreDecisions (may_answer old_known) (may_answer new_known) old_program new_program (alike_partners sides new partners) told
+  pub decisions : AreDecisions (may_answer old_known) (may_answer new_known) old_program new_program (alike_partners sides kind old new partners) told
 
 -- A PAIR OF STACKS
 pub record IsPair (sides : SidesText) (pair : StackPair) : Type 0 where

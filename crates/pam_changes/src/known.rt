@@ -5,7 +5,7 @@ ghost use Rattle.std.specs.Option.{option_map};
 ghost use Rattle.pam_conf.specs.ItemsOf.{module_text};
 ghost use Rattle.pam_conf.specs.Stack.{module_count};
 ghost use Rattle.pam_facts.specs.Answers.{Allows};
-ghost use Rattle.pam_changes.specs.Known.{AreThereAlike, alike_partner, alike_partners, is_alike, is_alike_at};
+ghost use Rattle.pam_changes.specs.Known.{AreThereAlike, alike_partner, alike_partners, fail_alike, fails_at, is_alike, is_alike_at};
 ghost use Rattle.pam_changes.specs.Known.{codes_listed, codes_set, codes_told, known_codes, sets, told_at};
 ghost use Rattle.pam_changes.specs.Sides.{side_view, sides_view};
 ghost use Rattle.pam_facts.specs.settings.Settings.{setting_view};
@@ -147,37 +147,78 @@ pub(crate) fn are_there_alike(sides: &Sides<'_, '_>, stack: &Stack) -> bool
     true
 }
 
-/// The partner of a module of the new stack, if both are there, or neither is.
+/// Whether a module of which only facts tell always fails by what its arguments are, by its number.
+fn fails_at(
+    sides: &Sides<'_, '_>,
+    side: &Side<'_>,
+    kind: Kind,
+    stack: &Stack,
+    number: usize,
+) -> bool
+    ensures { result ≡ fails_at (sides_view sides.now) (side_view side.now) kind stack.now number }
+{
+    if told_at(sides, side.there, stack, number).is_some() {
+        return false;
+    }
+    match stack.module(number) {
+        Some(module) => sides.facts.always_fails(kind, module),
+        None => false,
+    }
+}
+
+/// Two stacks of a kind.
+#[derive(Clone, Copy)]
+pub(crate) struct Stacks<'x> {
+    pub(crate) kind: Kind,
+    pub(crate) old: &'x Stack,
+    pub(crate) new: &'x Stack,
+}
+
+/// Whether a module of the old stack and one of the new stack always fail so, or neither does.
+fn fail_alike(sides: &Sides<'_, '_>, stacks: Stacks<'_>, partner: usize, number: usize) -> bool
+    ensures { result ≡ fail_alike (sides_view sides.now) stacks.entry.kind stacks.entry.old.now stacks.entry.new.now partner number }
+{
+    let fails_in_new = fails_at(sides, &sides.new, stacks.kind, stacks.new, number);
+    if fails_at(sides, &sides.old, stacks.kind, stacks.old, partner) {
+        fails_in_new
+    } else {
+        !fails_in_new
+    }
+}
+
+/// The partner of a module of the new stack, if both are there, or neither is, and both always fail by what their arguments are, or
+/// neither does.
 fn alike_partner(
     sides: &Sides<'_, '_>,
-    new: &Stack,
+    stacks: Stacks<'_>,
     matching: &Matching,
     number: usize,
 ) -> Option<usize>
-    ensures { result ≡ alike_partner (sides_view sides.now) new.now matching.now number }
+    ensures { result ≡ alike_partner (sides_view sides.now) stacks.entry.kind stacks.entry.old.now stacks.entry.new.now matching.now number }
 {
-    if is_alike_at(sides, new, number) {
-        matching.partner(number)
+    let partner = matching.partner(number)?;
+    if is_alike_at(sides, stacks.new, number) && fail_alike(sides, stacks, partner, number) {
+        Some(partner)
     } else {
         None
     }
 }
 
-/// The matched modules that answer alike: those that are there in both configurations, or in neither. One that is not there answers
-/// `module_unknown`, and says nothing of one that is.
+/// The matched modules that answer alike: those that are there in both configurations or in neither, and always fail by what their
+/// arguments are in both or in neither. One that is not there, or always fails, says nothing of one that is and does not.
 #[tactic(auto, unfolding(crate::specs::Known::alike_partners))]
 pub(crate) fn alike_modules(
     alloc: Global,
     sides: &Sides<'_, '_>,
-    new: &Stack,
+    stacks: Stacks<'_>,
     matching: &Matching,
 ) -> Result<Matching, AllocError>
-    ensures { IfOk result (λ m. m ≡ alike_partners (sides_view sides.now) new.now matching.now) }
+    ensures { IfOk result (λ m. m ≡ alike_partners (sides_view sides.now) stacks.entry.kind stacks.entry.old.now stacks.entry.new.now matching.now) }
 {
     let mut partners = Vec::new(alloc);
     partners.push(None)?;
-    for index in 0..new.modules() {
-        partners.push(alike_partner(sides, new, matching, index + 1))?;
+    for index in 0..stacks.new.modules() {
+        partners.push(alike_partner(sides, stacks, matching, index + 1))?;
     }
     Ok(Matching::from_partners(partners))
 }

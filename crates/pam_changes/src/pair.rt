@@ -8,7 +8,7 @@ ghost use Rattle.pam_paths.specs.Listing.{Allowance};
 ghost use Rattle.pam_changes.specs.Pairs.{AreDecisions, AreShown, IsCompared, IsPair, IsProgramOf, IsShown};
 ghost use Rattle.pam_changes.specs.Sides.{sides_view};
 
-use crate::known::{alike_modules, known_answers};
+use crate::known::{Stacks, alike_modules, known_answers};
 use crate::modules::ModuleChanges;
 use crate::sides::Sides;
 use crate::steps::{AskedModule, asked_modules};
@@ -161,7 +161,12 @@ impl Matched<'_> {
     {
         let old_known = known_answers(sides, &sides.old, self.kind, self.old);
         let new_known = known_answers(sides, &sides.new, self.kind, self.new);
-        let matching = alike_modules(alloc, sides, self.new, self.matching)?;
+        let stacks = Stacks {
+            kind: self.kind,
+            old: self.old,
+            new: self.new,
+        };
+        let matching = alike_modules(alloc, sides, stacks, self.matching)?;
         let programs = Programs {
             old,
             new,

@@ -10,6 +10,7 @@ use Rattle.pam_conf.specs.declared.rule.Kind.{Kind}
 use Rattle.pam_conf.specs.declared.rule.Kind.TheVariants.{Auth}
 use Rattle.pam_facts.specs.Answers.{or_failure}
 use Rattle.pam_facts.specs.Facts.{codes_in}
+use Rattle.pam_facts.specs.Failing.{always_fails}
 use Rattle.pam_facts.specs.Fitting.{fact_of, has_row}
 use Rattle.pam_facts.specs.Missing.{where_there}
 use Rattle.pam_facts.specs.Rows.{Row}
@@ -56,9 +57,10 @@ abbrev pub is_checks : Class → Bool
 is_checks classes.Checks = true
 is_checks class = false
 
--- a row of the class `checks` tells of a module
+-- a row of the class `checks` tells of a module, which takes its arguments; one that does not take them fails, and does not answer ignore
 abbrev pub is_checker : List Row → ModuleText → Bool
-is_checker rows m = has_row rows m.path m.arguments && is_checks (fact_of rows m.path m.arguments).class
+is_checker rows m =
+    has_row rows m.path m.arguments && (is_checks (fact_of rows m.path m.arguments).class && not (always_fails rows Auth m))
 
 -- ONE THAT CHECKS DOES NOT ANSWER ignore: in auth it answers any other code that it can. One that may answer ignore is of another class
 abbrev pub checker_codes : Fact → List ℕ

@@ -76,12 +76,13 @@ fn is_checks(class: Class) -> bool
     }
 }
 
-/// Whether a row of the class `checks` tells of a module.
+/// Whether a row of the class `checks` tells of a module, which takes its arguments.
 fn is_checker(facts: &Facts<'_>, module: &Module) -> bool
     ensures { result ≡ is_checker facts.now (module_text «module».now) }
 {
     facts.has_row(&module.path, &module.arguments)
         && is_checks(facts.of(&module.path, &module.arguments).class)
+        && !facts.always_fails(Kind::Auth, module)
 }
 
 /// What a module that checks can answer in `auth`, without `ignore`. One that has no other code fails.
