@@ -6,6 +6,7 @@ pub mod Counted
 pub mod CutOff
 pub mod FileNames
 pub mod Foldered
+pub mod Grave
 pub mod Halves
 pub mod Jumping
 pub mod LettingIn
@@ -27,6 +28,7 @@ pub mod Seen
 pub mod Silence
 pub mod Storing
 pub mod Taking
+pub mod Targets
 pub mod Tokens
 pub mod Uncounted
 pub mod Vain

@@ -1,6 +1,9 @@
 pub mod LaterWords
 pub mod NearestActions
 pub mod NearestNames
+pub mod Offsets
+pub mod Pieces
 pub mod ReadLines
 pub mod Readers
 pub mod Thirds
+pub mod WrongTokens

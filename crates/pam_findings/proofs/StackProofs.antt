@@ -1,6 +1,7 @@
 pub mod CanPass
 pub mod Counting
 pub mod CountingMarks
+pub mod Deciding
 pub mod Exactly
 pub mod Implied
 pub mod Leading

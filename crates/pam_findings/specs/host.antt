@@ -3,7 +3,6 @@ pub mod Beside
 pub mod Callers
 pub mod Causes
 pub mod Closed
-pub mod Failing
 pub mod Faillock
 pub mod FileProblems
 pub mod FolderProblems
@@ -13,6 +12,7 @@ pub mod Laws
 pub mod Levels
 pub mod Links
 pub mod Met
+pub mod MissingFiles
 pub mod Modules
 pub mod OtherAnswers
 pub mod Problems

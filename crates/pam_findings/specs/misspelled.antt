@@ -1,3 +1,4 @@
+pub mod About
 pub mod Actions
 pub mod Findings
 pub mod Laws
@@ -6,5 +7,7 @@ pub mod Misspelled
 pub mod MisspelledView
 pub mod Pairs
 pub mod Paths
+pub mod Pieces
 pub mod RightWords
+pub mod Spots
 pub mod inner

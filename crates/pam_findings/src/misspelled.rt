@@ -1,15 +1,21 @@
-//! The words that are wrong in the lines of a configuration, each with the nearest right word.
+//! The words of a configuration that findings are about: where each stands, and the nearest right word for one that is wrong.
 #![tactic(auto)]
 
+mod about;
 mod actions;
+mod cursor;
 mod findings;
 pub mod laws;
+mod offsets;
 mod pairs;
 mod path;
+mod pieces;
 mod reader;
 mod right_words;
+mod spot;
 mod word;
 
 pub use findings::misspelled_words;
 pub use right_words::MAX_NAMES;
+pub use spot::Spot;
 pub use word::Misspelled;

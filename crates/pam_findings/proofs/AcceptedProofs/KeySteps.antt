@@ -50,12 +50,12 @@ any_text : {T : Type 0} (text : T → List ℕ) (key : List ℕ) (xs : List T) �
 any_text text key [] = refl
 any_text text key (x ∷ xs) = ap (λ t. bytes_eq key (text x) || t) (any_text text key xs)
 
-or_false : (t : Bool) → (t || false) ≡ t
+pub or_false : (t : Bool) → (t || false) ≡ t
 or_false true = refl
 or_false false = refl
 
 -- a key that is already among the keys adds none
-any_there : (key one : List ℕ) (keys : List (List ℕ)) (t : Bool) → bytes_eq key one ≡ t → list_any (bytes_eq one) keys ≡ true
+pub any_there : (key one : List ℕ) (keys : List (List ℕ)) (t : Bool) → bytes_eq key one ≡ t → list_any (bytes_eq one) keys ≡ true
     → list_any (bytes_eq key) keys ≡ (list_any (bytes_eq key) keys || t)
 any_there key one keys true same found =
     let all : list_any (bytes_eq key) keys ≡ true = ap (λ k. list_any (bytes_eq k) keys) ((bytes_eq-Decides key one).0 same) ∙ found in

@@ -6,9 +6,9 @@ use Rattle.std.specs.Ordering.{is_eq}
 use Rattle.std.proofs.lemmas.Bool.{cases_Bool, false≢true}
 use Rattle.std.proofs.lemmas.Cmp.{tied_itself}
 use Rattle.std.proofs.lemmas.Map.Views.{tells_apart}
-use Rattle.pam_arguments.specs.declared.lacks.Lack.{Lack}
-use Rattle.pam_arguments.specs.declared.lacks.Lack.TheVariants as lacks
-use Rattle.pam_arguments.specs.declared.verdict.Reaction.TheVariants.{Fails, Ignores, Logs}
+use Rattle.pam_facts.specs.declared.arguments.lacks.Lack.{Lack}
+use Rattle.pam_facts.specs.declared.arguments.lacks.Lack.TheVariants as lacks
+use Rattle.pam_facts.specs.declared.arguments.verdict.Reaction.TheVariants.{Fails, Ignores, Logs}
 use Rattle.pam_codes.specs.declared.error.ControlError.TheVariants.{BadControl, BadValue, BadAction, ZeroJump, OpenBracket}
 use Rattle.pam_conf.specs.declared.error.FaultKind.{FaultKind}
 use Rattle.pam_conf.specs.declared.error.FaultKind.TheVariants as faults
@@ -21,6 +21,8 @@ use Rattle.pam_released.specs.Findings.{number_of}
 use Rattle.pam_findings.specs.host.Problems.{compare_places, kind_of, number_of_answer, number_of_anybody, number_of_kind, number_of_lack, number_of_nobody, number_of_refuser, place_of}
 use Rattle.pam_findings.specs.host.Problems.{rank_of, rank_of_argument, rank_of_fault, reaction_of, service_of}
 use Rattle.pam_findings.specs.host.inner.Table.{Puts, Removes, Table, finding_at}
+use Rattle.pam_findings.specs.declared.host.missing_files.Absence.{Absence}
+use Rattle.pam_findings.specs.declared.host.missing_files.Absence.TheVariants as absences
 use Rattle.pam_findings.specs.declared.host.problem.ArgumentProblem.{ArgumentProblem}
 use Rattle.pam_findings.specs.declared.host.problem.ArgumentProblem.TheVariants as arguments
 use Rattle.pam_findings.specs.declared.host.problem.Place.{Place}
@@ -69,6 +71,9 @@ wrong_numbered n reaction =
 abbrev lack_numbered : ℕ → Lack
 lack_numbered n = slice_index_or (lacks.Program ∷ lacks.List ∷ lacks.Database ∷ lacks.UserType ∷ []) n lacks.Condition
 
+abbrev absence_numbered : ℕ → Absence
+absence_numbered n = slice_index_or (absences.Fails ∷ []) n absences.Passes
+
 abbrev refuser_numbered : ℕ → Refuser
 refuser_numbered n = slice_index_or (refusers.Cracklib ∷ refusers.Passwdqc ∷ refusers.Pwhistory ∷ []) n refusers.Pwquality
 
@@ -104,6 +109,7 @@ other_numbered n service kind =
     else if nat_lt n 32 then problems.StoredThoughRefused (refuser_numbered kind)
     else if nat_lt n 33 then counting_numbered kind
     else if nat_lt n 34 then problems.Argument service arguments.Weak
+    else if nat_lt n 35 then problems.Argument service (arguments.MissingFile (absence_numbered kind))
     else if nat_lt n 36 then problems.UnknownModule
     else if nat_lt n 37 then problems.SuccessNeverCounts
     else problems.LinkOutside
@@ -248,6 +254,8 @@ of_argument argument arguments.OtherKind = refl
 of_argument argument arguments.BadValue = refl
 of_argument argument arguments.NoToken = refl
 of_argument argument arguments.Weak = refl
+of_argument argument (arguments.MissingFile absences.Fails) = refl
+of_argument argument (arguments.MissingFile absences.Passes) = refl
 
 of_lack : (lack : Lack) → problem_of 79 0 (number_of_lack lack) ≡ problems.BadArguments lack
 unfolding problem_of

@@ -16,6 +16,9 @@ use Rattle.pam_findings.specs.declared.host.problem.Spot.{Spot}
 use Rattle.pam_findings.proofs.HostProofs.Adding.{adds-both, adds-if, adds-iff, adds-one}
 use Rattle.pam_findings.proofs.HostProofs.Verdicted.{same-spot}
 
+abbrev spot_in : Option ℕ → ℕ → Problem → Spot
+spot_in file line problem = record { file = file; line = line; problem = problem }
+
 -- a problem that a test finds
 abbrev pub If : Bool → ModuleText → Problem → Spot → Type 0
 If has rule problem spot = (has ≡ true) × (spot ≡ spot_at rule problem)
@@ -32,7 +35,7 @@ module _ (modules : Modules) (name : List ℕ) (kind : Kind) (rule : ModuleText)
       ⊎ If (has_no_function modules.facts kind rule) rule problems.NoFunction spot)
       ⊎ If (caller_is_root kind name rule) rule (problems.CallerIsRoot (is_daemon_service name)) spot)
       ⊎ If (lacks_separator rule) rule problems.EmptySeparator spot)
-      ⊎ OfArguments kind rule spot)
+      ⊎ OfArguments modules.facts modules.files kind rule spot)
       ⊎ (IsUnknown modules kind rule × (spot ≡ spot_at rule problems.UnknownModule))
 
   to-rule : (spot : Spot) → Parts spot → OfRule modules name kind rule spot
@@ -44,8 +47,9 @@ module _ (modules : Modules) (name : List ℕ) (kind : Kind) (rule : ModuleText)
   to-rule spot (inl (inl (inl (inr h)))) =
       subst (OfRule modules name kind rule) (sym h.1) (record { file = refl; line = refl; has = (h.0, refl) })
   to-rule spot (inl (inl (inr h))) = subst (OfRule modules name kind rule) (sym h.1) (record { file = refl; line = refl; has = h.0 })
-  to-rule spot (inl (inr (inl h))) = subst (OfRule modules name kind rule) (sym h.of.at) (record { file = refl; line = refl; has = h.of.is })
-  to-rule spot (inl (inr (inr h))) = subst (OfRule modules name kind rule) (sym h.at) (record { file = refl; line = refl; has = h.is })
+  to-rule spot (inl (inr (inl (inl h)))) = subst (OfRule modules name kind rule) (sym h.of.at) (record { file = refl; line = refl; has = inl h.of.is })
+  to-rule spot (inl (inr (inl (inr h)))) = subst (OfRule modules name kind rule) (sym h.at) (record { file = refl; line = refl; has = h.is })
+  to-rule spot (inl (inr (inr h))) = subst (OfRule modules name kind rule) (sym h.of.at) (record { file = refl; line = refl; has = inr h.of.is })
   to-rule spot (inr h) = subst (OfRule modules name kind rule) (sym h.1) (record { file = refl; line = refl; has = h.0 })
 
   from-rule : (file : Option ℕ) (line : ℕ) (problem : Problem) →
@@ -59,9 +63,14 @@ module _ (modules : Modules) (name : List ℕ) (kind : Kind) (rule : ModuleText)
       inl (inl (inl (inr (h.has.0, same-spot _ _ h.file h.line (ap problems.CallerIsRoot h.has.1)))))
   from-rule file line problems.EmptySeparator h = inl (inl (inr (h.has, same-spot _ _ h.file h.line refl)))
   from-rule file line (problems.Argument argument wrong) h =
-      inl (inr (inl (record { position = argument; of = record { wrong = wrong; is = h.has; at = same-spot _ _ h.file h.line refl } })))
+      let at : spot_in file line (problems.Argument argument wrong) ≡ spot_at rule (problems.Argument argument wrong) =
+      same-spot _ _ h.file h.line refl in
+      elim h.has [
+        | inl is ↦ inl (inr (inl (inl (record { position = argument; of = record { wrong = wrong; is = is; at = at } }))))
+        | inr is ↦ inl (inr (inr (record { position = argument; of = record { wrong = wrong; is = is; at = at } })))
+      ]
   from-rule file line (problems.BadArguments lack) h =
-      inl (inr (inr (record { lack = lack; is = h.has; at = same-spot _ _ h.file h.line refl })))
+      inl (inr (inl (inr (record { lack = lack; is = h.has; at = same-spot _ _ h.file h.line refl }))))
   from-rule file line problems.UnknownModule h = inr (h.has, same-spot _ _ h.file h.line refl)
   from-rule file line (problems.LetsNobodyIn service of_kind) h = absurd h.has
   from-rule file line (problems.LetsAnybodyIn service is_greeter) h = absurd h.has
@@ -88,7 +97,7 @@ module _ (modules : Modules) (name : List ℕ) (kind : Kind) (rule : ModuleText)
       ((unknown ≡ true) ↔ IsUnknown modules kind rule) →
       Adds (If other rule problems.NeverAsked) old zero → Adds (If missing rule (problems.NoModule rule.dashed)) zero first →
       Adds (If functionless rule problems.NoFunction) first second → Adds (If root rule (problems.CallerIsRoot daemon)) second third →
-      Adds (If empty rule problems.EmptySeparator) third fourth → Adds (OfArguments kind rule) fourth fifth →
+      Adds (If empty rule problems.EmptySeparator) third fourth → Adds (OfArguments modules.facts modules.files kind rule) fourth fifth →
       Adds (If unknown rule problems.UnknownModule) fifth new → Adds (OfRule modules name kind rule) old new
   unfolding Parts
   adds-of-rule old zero first second third fourth fifth new other missing functionless root daemon empty unknown
@@ -99,10 +108,10 @@ module _ (modules : Modules) (name : List ℕ) (kind : Kind) (rule : ModuleText)
       let C : Spot → Type 0 = If (caller_is_root kind name rule) rule (problems.CallerIsRoot (is_daemon_service name)) in
       let D : Spot → Type 0 = If (lacks_separator rule) rule problems.EmptySeparator in
       let U : Spot → Type 0 = λ spot. IsUnknown modules kind rule × (spot ≡ spot_at rule problems.UnknownModule) in
-      adds-iff (λ spot. (((((O spot ⊎ A spot) ⊎ B spot) ⊎ C spot) ⊎ D spot) ⊎ OfArguments kind rule spot) ⊎ U spot) (OfRule modules name kind rule) old new
+      adds-iff (λ spot. (((((O spot ⊎ A spot) ⊎ B spot) ⊎ C spot) ⊎ D spot) ⊎ OfArguments modules.facts modules.files kind rule spot) ⊎ U spot) (OfRule modules name kind rule) old new
       (λ spot. (to-rule spot, from-rule spot.file spot.line spot.problem))
-      (adds-both (λ spot. ((((O spot ⊎ A spot) ⊎ B spot) ⊎ C spot) ⊎ D spot) ⊎ OfArguments kind rule spot) U old fifth new
-      (adds-both (λ spot. (((O spot ⊎ A spot) ⊎ B spot) ⊎ C spot) ⊎ D spot) (OfArguments kind rule) old fourth fifth
+      (adds-both (λ spot. ((((O spot ⊎ A spot) ⊎ B spot) ⊎ C spot) ⊎ D spot) ⊎ OfArguments modules.facts modules.files kind rule spot) U old fifth new
+      (adds-both (λ spot. (((O spot ⊎ A spot) ⊎ B spot) ⊎ C spot) ⊎ D spot) (OfArguments modules.facts modules.files kind rule) old fourth fifth
       (adds-both (λ spot. ((O spot ⊎ A spot) ⊎ B spot) ⊎ C spot) D old third fourth
       (adds-both (λ spot. (O spot ⊎ A spot) ⊎ B spot) C old second third
       (adds-both (λ spot. O spot ⊎ A spot) B old first second

@@ -1,84 +1,68 @@
 -- A host whose findings are all notes.
-use Rattle.std.proofs.Common.{◌≡◌, ℕ, ◌<◌, false, true, List, [], ◌∷◌, ◌++◌, length, get_or, slice_get, refl, sym, ◌∙◌, ap, subst, inl, inr, suc, zero, arith}
+use Rattle.std.proofs.Common.{◌≡◌, ℕ, ◌<◌, ◌==◌, Bool, false, true, not, List, [], ◌∷◌, ◌++◌, length, get_or, slice_get, refl, sym, ◌∙◌, ap, subst, inl, inr, arith}
 use Rattle.std.proofs.Common.{Option, Some, None, IfSome, IsSome, is_some, MatchOption, Ok}
 use Rattle.std.specs.Prelude.{unwrap_or}
 use Rattle.std.specs.BTreeMap.{get}
 use Rattle.std.specs.List.{Contains}
-use Rattle.std.specs.Option.{option_map}
-use Rattle.std.proofs.lemmas.Bool.{cases_Bool}
+use Rattle.std.specs.Option.{option_map_or}
+use Rattle.std.proofs.lemmas.Bool.{cases_Bool, eqb-true, eq-eqb}
 use Rattle.std.proofs.lemmas.List.Elements.{All-contains}
 use Rattle.std.proofs.lemmas.Map.Views.{IfSome-get}
-use Rattle.std.proofs.lemmas.Option.{slice_get_within}
 use Rattle.pam_findings.specs.stack.Soundness.{LetsIn, SaysNobody, SaysWayIn}
 use Rattle.pam_conf.specs.FileRules.{own_faults}
-use Rattle.pam_conf.specs.Files.{Named, bytes_at}
+use Rattle.pam_conf.specs.Files.{bytes_at}
 use Rattle.pam_conf.specs.Laws.{IsSound}
 use Rattle.pam_conf.specs.Resolution.{resolved}
 use Rattle.pam_conf.specs.Stack.{IsNumbered, Items, ModuleText, module_at}
 use Rattle.pam_conf.specs.Survey.{SurveyText, faults_at}
 use Rattle.pam_conf.specs.declared.conf_error.ConfError.{ConfError}
-use Rattle.pam_conf.specs.declared.error.FaultKind.{FaultKind}
-use Rattle.pam_conf.specs.declared.error.FaultKind.TheVariants as faults
 use Rattle.pam_conf.specs.declared.error.RuleFault.{RuleFault}
-use Rattle.pam_conf.specs.declared.rule.Form.{Form}
-use Rattle.pam_conf.specs.declared.rule.Form.TheVariants.{Dir, Single}
 use Rattle.pam_conf.specs.declared.rule.Kind.{Kind}
-use Rattle.pam_conf.specs.declared.rule.Kind.TheVariants.{Auth}
+use Rattle.pam_conf.specs.declared.rule.Kind.TheVariants.{Auth, Password}
 use Rattle.pam_conf.proofs.ResolvedStacks.{resolved_stack}
 use Rattle.pam_conf.proofs.StackTree.{module_at-there}
 use Rattle.pam_conf.proofs.SoundSurveys.{faultless, stack_is_sound}
+use Rattle.pam_codes.specs.Code.{all_codes}
+use Rattle.pam_facts.specs.Answers.{is_there}
+use Rattle.pam_dispatch.specs.State.{success}
 use Rattle.pam_text.specs.Members.{Member}
 use Rattle.pam_paths.specs.Known.{may_answer}
 use Rattle.pam_paths.specs.Paths.{PathValue}
-use Rattle.pam_paths.proofs.Alike.{Member-codes}
 use Rattle.pam_findings.specs.host.Callers.{is_greeter}
-use Rattle.pam_findings.specs.host.FileProblems.{BytesHave, FileHas, files_read}
+use Rattle.pam_findings.specs.host.Faillock.{has_task}
+use Rattle.pam_findings.specs.host.FileProblems.{BytesHave, FileHas}
 use Rattle.pam_findings.specs.host.Host.{Host, Meets, beside_at, reads_at, service_at, survey_at}
-use Rattle.pam_findings.specs.host.Laws.{IsAskedFor, IsSilent, IsSoundStack, SilentHostIsSound}
-use Rattle.pam_findings.specs.host.Levels.{level_of, level_of_fault}
+use Rattle.pam_findings.specs.host.Laws.{IsAskedFor, IsSilent, IsSoundStack, SilentHostIsSound, SomeAsksBefore, SomeFailsBefore, SomeHasTask}
+use Rattle.pam_findings.specs.host.Laws.{is_included_at}
+use Rattle.pam_findings.specs.host.Levels.{level_of, level_of_argument}
 use Rattle.pam_findings.specs.host.Problems.{compare_places, place_of}
 use Rattle.pam_findings.specs.host.Report.{IsFound, IsReportOn}
-use Rattle.pam_findings.specs.host.StackProblems.{InItems, InWalk, SucceedsInVain, named_in}
+use Rattle.pam_findings.specs.host.StackProblems.{ByVerdict, InItems, InWalk, ModuleHas, StackAt, SucceedsInVain, named_in, stack_at}
+use Rattle.pam_findings.specs.host.Storing.{failures, refuses, stores}
+use Rattle.pam_findings.specs.host.Tokens.{may_ask_for, only_takes, takes}
 use Rattle.pam_findings.specs.host.inner.Table.{Table}
 use Rattle.pam_findings.specs.host.Verdicts.{IsJudgement, IsVerdict, Judged, Judgement, LetsNobody, Refused, SaysWhoLogsIn, TooLarge, Verdict, causes_of}
 use Rattle.pam_findings.specs.host.Verdicts.{way_in_of}
+use Rattle.pam_findings.specs.stack.Asked.{Asks}
+use Rattle.pam_findings.specs.stack.Leading.{Leads}
 use Rattle.pam_findings.specs.declared.host.level.Level.TheVariants.{Note, Warning}
+use Rattle.pam_findings.specs.declared.host.problem.ArgumentProblem.TheVariants.{NoToken}
 use Rattle.pam_findings.specs.declared.host.problem.Place.{Place}
+use Rattle.pam_findings.specs.declared.host.problem.Problem.{Problem}
 use Rattle.pam_findings.specs.declared.host.problem.Problem.TheVariants as problems
 use Rattle.pam_findings.specs.declared.host.problem.Spot.{Spot}
+use Rattle.pam_findings.specs.declared.host.refusing.Refuser.{Refuser}
 use Rattle.pam_findings.specs.declared.host.report.Finding.{Finding}
 use Rattle.pam_findings.specs.declared.host.way_in.WayIn.{WayIn}
 use Rattle.pam_conf.proofs.ServiceSteps.{no_faults}
+use Rattle.pam_findings.proofs.HostProofs.Adding.{numbered}
 use Rattle.pam_findings.proofs.HostProofs.Counted.{asked-range, counts_or_not}
 use Rattle.pam_findings.proofs.HostProofs.Meeting.{to_front}
 use Rattle.pam_findings.proofs.HostProofs.PlaceOrder.{exact_places, places_total}
-
--- no fault is a note
-grave : (fault : FaultKind) → level_of_fault fault ≡ Note → ⊥
-grave faults.BadTarget h = cc
-grave fault h = cc
-
--- LISTS
-
-at-index : {X : Type 0} (xs : List X) (k : ℕ) (d : X) → k < length xs → Member (get_or xs k d) xs
-unfolding Member
-at-index [] k d h = absurd (omega (arith, h))
-at-index (x ∷ xs) zero d h = inl refl
-at-index (x ∷ xs) (suc k) d h = inr (at-index xs k d (omega (arith, h)))
-
-first-in : {X : Type 0} (x : X) (xs all : List X) → all ≡ x ∷ xs → Member x all
-unfolding Member
-first-in x xs all is = subst (Member x) (sym is) (inl refl)
-
--- a file that is reached is read
-reached-read : (form : Form) (files : ℕ) (reached : List ℕ) (file : ℕ) → Member file reached → file < files → Member file (files_read form files reached)
-reached-read Dir files reached file there within = there
-reached-read Single files reached file there within = Member-codes 0 files file (omega arith) (omega (arith, within))
-
-there-within : (entries : List Named) (file : ℕ) (o : Option Named) → slice_get entries file ≡ o → (bytes : List ℕ) → option_map (λ f. f.1) o ≡ Some bytes →
-    file < length entries
-there-within entries file None is bytes h = absurd cc
-there-within entries file (Some f) is bytes h = slice_get_within entries file f is
+use Rattle.pam_findings.proofs.HostProofs.Tokens.{passes_at, passing-rule}
+use Rattle.pam_findings.proofs.HostProofs.Uncounted.{not-of}
+use Rattle.pam_findings.proofs.StackProofs.Deciding.{asked_or_not, led_or_not}
+use Rattle.pam_findings.proofs.HostProofs.Grave.{at-index, first-in, grave, missing-warns, reached-read, some-at, there-within}
 
 module _ (host : Host) (named : List (List ℕ)) (found : Table) (ways : List (Option WayIn)) (report : IsReportOn host named found ways)
     (silent : IsSilent found) where
@@ -181,6 +165,139 @@ module _ (host : Host) (named : List (List ℕ)) (found : Table) (ways : List (O
         met-note spot service kind (within, inr (inl (inr (inr (refl, auth, (refl, refl), h, asked, sym other)))), λ e. absurd cc) in
         cc
 
+    -- and so of a rule of it
+    abbrev at : StackAt
+    at = stack_at host.folder service (service_at host service) kind survey
+
+    told-note : (j : Judgement) → report.verdicts service kind ≡ Judged j → (rule : ModuleText) (problem : Problem) → (problem ≡ problems.NeverAsked → ⊥) →
+        ByVerdict at (Judged j) (record { file = Some rule.file; line = rule.line; problem = problem }) problem → level_of problem ≡ Note
+    told-note j is rule problem other by =
+        let spot : Spot = record { file = Some rule.file; line = rule.line; problem = problem } in
+        let here : ByVerdict at (report.verdicts service kind) spot problem = subst (λ (v : Verdict). ByVerdict at v spot problem) (sym is) by in
+        met-note spot service kind (within, inr (inl (inr (inr here))), λ e. absurd (other e))
+
+    -- RULES WHOSE MODULES ONLY TAKE A TOKEN, of pam_faillock, or that store a password
+
+    module _ (j : Judgement) (is : report.verdicts service kind ≡ Judged j)
+        (h : IsJudgement host.folder host.modules (service_at host service) kind j) where
+      all-numbered : IsNumbered j.items
+      all-numbered = (resolved_stack host.folder (service_at host service) kind j.items h.stack).0
+
+      -- what a rule has by itself is a note
+      own-note : (number : ℕ) (rule : ModuleText) (problem : Problem) → module_at number j.items ≡ Some rule → (problem ≡ problems.NeverAsked → ⊥) →
+          ModuleHas host.modules (service_at host service) kind rule problem → level_of problem ≡ Note
+      own-note number rule problem there other has =
+          let spot : Spot = record { file = Some rule.file; line = rule.line; problem = problem } in
+          let name = service_at host service in
+          let given : survey.items ≡ Some j.items = ((stack_is_sound host.folder name kind j.items).0 h.stack).0 in
+          let here : InItems host.modules name kind (Some j.items) spot problem = (number, rule, record { is_there = there; file = refl; line = refl }, has) in
+          let In : Option Items → Type 0 = λ o. InItems host.modules name kind o spot problem in
+          met-note spot service kind (within, inr (inl (inr (inl (subst In (sym given) here)))), λ e. absurd (other e))
+
+      not-never : (number : ℕ) → Asks (may_answer j.free) j.items number → Member number j.never_asked → ⊥
+      not-never number asks never = ((h.never_asked.members number).0 never).never asks
+
+      asks-before : is_included_at host service ≡ false → (number : ℕ) (rule : ModuleText) → module_at number j.items ≡ Some rule →
+          only_takes kind rule ≡ true → Asks (may_answer j.free) j.items number → SomeAsksBefore kind j.free j.items number
+      asks-before alone number rule there takes_one asks =
+          elim (led_or_not j.free j.items all-numbered (passes_at (may_ask_for kind) j.items) all_codes (λ later. later == number)) [
+            | inl led ↦
+                let first = passing-rule (may_ask_for kind) (module_at led.one j.items) led.is_first in (
+                  led.one,
+                  first.0,
+                  first.1,
+                  first.2,
+                  subst (Leads (may_answer j.free) j.items all_codes led.one) (eqb-true led.other number led.is_later) led.leads,
+                )
+            | inr none ↦
+                let word = some-at (takes kind rule) rule.arguments takes_one in
+                let note : Warning ≡ Note =
+                told-note j is rule (problems.Argument word.0 NoToken) (λ e. absurd cc) (
+                  refl,
+                  alone,
+                  (
+                    number,
+                    rule,
+                    record { is_there = there; file = refl; line = refl },
+                    (
+                      word.1,
+                      not-never number asks,
+                      λ first asking is_first may leads.
+                          none first number (ap (λ (o : Option ModuleText). option_map_or (may_ask_for kind) o false) is_first ∙ may)
+                          (eq-eqb number number refl) leads,
+                    ),
+                  ),
+                ) in
+                absurd cc
+          ]
+
+      none-refused : kind ≡ Password → (by : Refuser) (first later : ℕ) (refusing storing : ModuleText) →
+          module_at first j.items ≡ Some refusing → refuses by refusing ≡ true → module_at later j.items ≡ Some storing → stores storing ≡ true →
+          Leads (may_answer j.free) j.items failures first later → ⊥
+      none-refused password by first later refusing storing is_first may there stores_one leads =
+          let note : Warning ≡ Note =
+          told-note j is storing (problems.StoredThoughRefused by) (λ e. absurd cc)
+          (password, (later, storing, record { is_there = there; file = refl; line = refl }, (stores_one, (first, refusing, is_first, may, leads)))) in
+          cc
+
+      has-other-task : kind ≡ Auth → (task : Bool) (number : ℕ) (rule : ModuleText) → module_at number j.items ≡ Some rule → has_task task rule ≡ true →
+          SomeHasTask (not task) j.free j.items
+      has-other-task auth task number rule there has =
+          elim (asked_or_not j.free j.items all-numbered (passes_at (has_task (not task)) j.items)) [
+            | inl some ↦
+                let other = passing-rule (has_task (not task)) (module_at some.number j.items) some.passes in
+                (some.number, other.0, other.1, other.2, some.asks)
+            | inr none ↦
+                let note : Warning ≡ Note =
+                told-note j is rule (problems.NotCounted task) (λ e. absurd cc) (
+                  auth,
+                  (
+                    number,
+                    rule,
+                    record { is_there = there; file = refl; line = refl },
+                    (
+                      has,
+                      λ other of is_other has_other.
+                          let range = numbered j.items other of all-numbered is_other in
+                          (h.never_asked.members other).1 (record {
+                            first = range.0;
+                            last = range.1;
+                            never = none other (ap (λ (o : Option ModuleText). option_map_or (has_task (not task)) o false) is_other ∙ has_other);
+                          }),
+                    ),
+                  ),
+                ) in
+                absurd cc
+          ]
+
+      fails-before : kind ≡ Auth → is_included_at host service ≡ false → (number : ℕ) (rule : ModuleText) → module_at number j.items ≡ Some rule →
+          has_task true rule ≡ true → Asks (may_answer j.free) j.items number → SomeFailsBefore j.free j.failing j.items number
+      fails-before auth alone number rule there has asks =
+          elim (led_or_not j.free j.items all-numbered (λ first. not (may_answer j.failing first success)) failures (λ later. later == number)) [
+            | inl led ↦ (
+              led.one,
+              not-of (may_answer j.failing led.one success) led.is_first,
+              subst (Leads (may_answer j.free) j.items failures led.one) (eqb-true led.other number led.is_later) led.leads,
+            )
+            | inr none ↦
+                let note : Warning ≡ Note =
+                told-note j is rule problems.NoFailureCounted (λ e. absurd cc) (
+                  auth,
+                  alone,
+                  (
+                    number,
+                    rule,
+                    record { is_there = there; file = refl; line = refl },
+                    (
+                      has,
+                      not-never number asks,
+                      λ first says leads. none first number (ap not says) (eq-eqb number number refl) leads,
+                    ),
+                  ),
+                ) in
+                absurd cc
+          ]
+
     sound-judged : (j : Judgement) → report.verdicts service kind ≡ Judged j → IsJudgement host.folder host.modules (service_at host service) kind j →
         IsSoundStack host service kind
     sound-judged j is h = record {
@@ -197,41 +314,33 @@ module _ (host : Host) (named : List (List ℕ)) (found : Table) (ways : List (O
       nobody_else = λ auth asked other answers allowed decides.
           way-none auth asked other j.way refl h.way (record { answers = answers; allowed = allowed; decides = decides });
       counts = λ auth lets number says succeeds.
-          let numbered : IsNumbered j.items = (resolved_stack host.folder (service_at host service) kind j.items h.stack).0 in
-          let range = asked-range (may_answer j.free) j.items number numbered succeeds.asks in
-          let module_there = module_at-there 1 number j.items numbered range.0 (omega (arith, range.1)) in
-          elim (counts_or_not (may_answer j.free) j.items number numbered succeeds) [
+          let is_numbered : IsNumbered j.items = (resolved_stack host.folder (service_at host service) kind j.items h.stack).0 in
+          let range = asked-range (may_answer j.free) j.items number is_numbered succeeds.asks in
+          let module_there = module_at-there 1 number j.items is_numbered range.0 (omega (arith, range.1)) in
+          elim (counts_or_not (may_answer j.free) j.items number is_numbered succeeds) [
             | inl counts ↦ counts
             | inr none ↦
                 let never : Member number j.never_counts = (h.never_counts.members number).1 (record { succeeds = succeeds; never = none }) in
                 absurd (not-vain auth lets number (module_at number j.items) refl module_there never says)
           ];
       arguments = λ number rule position wrong there wrong_is.
-          let spot : Spot = record { file = Some rule.file; line = rule.line; problem = problems.Argument position wrong } in
-          let name = service_at host service in
-          let given : survey.items ≡ Some j.items = ((stack_is_sound host.folder name kind j.items).0 h.stack).0 in
-          let has : InItems host.modules name kind (Some j.items) spot spot.problem =
-          (number, rule, record { is_there = there; file = refl; line = refl }, wrong_is) in
-          let In : Option Items → Type 0 = λ o. InItems host.modules name kind o spot spot.problem in
-          met-note spot service kind (within, inr (inl (inr (inl (subst In (sym given) has)))), λ e. absurd cc);
+          own-note j is h number rule (problems.Argument position wrong) there (λ e. absurd cc) (inl wrong_is);
+      files = λ number rule position wrong there missing.
+          let note = own-note j is h number rule (problems.Argument position wrong) there (λ e. absurd cc) (inr missing) in
+          let warns : level_of_argument wrong ≡ Warning = missing-warns host.modules.files kind rule wrong (slice_get rule.arguments position) missing in
+          let clash : Warning ≡ Note = sym warns ∙ note in
+          absurd cc;
       caller = λ number rule there daemon is_root.
-          let spot : Spot = record { file = Some rule.file; line = rule.line; problem = problems.CallerIsRoot true } in
-          let name = service_at host service in
-          let given : survey.items ≡ Some j.items = ((stack_is_sound host.folder name kind j.items).0 h.stack).0 in
-          let has : InItems host.modules name kind (Some j.items) spot spot.problem =
-          (number, rule, record { is_there = there; file = refl; line = refl }, (is_root, sym daemon)) in
-          let In : Option Items → Type 0 = λ o. InItems host.modules name kind o spot spot.problem in
-          let note : Warning ≡ Note = met-note spot service kind (within, inr (inl (inr (inl (subst In (sym given) has)))), λ e. absurd cc) in
+          let note : Warning ≡ Note =
+          own-note j is h number rule (problems.CallerIsRoot true) there (λ e. absurd cc) (is_root, sym daemon) in
           absurd cc;
       whole = λ number rule lack there lack_is.
-          let spot : Spot = record { file = Some rule.file; line = rule.line; problem = problems.BadArguments lack } in
-          let name = service_at host service in
-          let given : survey.items ≡ Some j.items = ((stack_is_sound host.folder name kind j.items).0 h.stack).0 in
-          let has : InItems host.modules name kind (Some j.items) spot spot.problem =
-          (number, rule, record { is_there = there; file = refl; line = refl }, lack_is) in
-          let In : Option Items → Type 0 = λ o. InItems host.modules name kind o spot spot.problem in
-          let note : Warning ≡ Note = met-note spot service kind (within, inr (inl (inr (inl (subst In (sym given) has)))), λ e. absurd cc) in
+          let note : Warning ≡ Note = own-note j is h number rule (problems.BadArguments lack) there (λ e. absurd cc) lack_is in
           absurd cc;
+      tokens = asks-before j is h;
+      refusals = none-refused j is h;
+      tasks = has-other-task j is h;
+      failures_count = fails-before j is h;
     }
       where
         somebody-in : LetsIn (may_answer j.free) j.items → j.nobody ≡ false

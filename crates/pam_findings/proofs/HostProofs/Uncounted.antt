@@ -26,7 +26,7 @@ pub all-checking : (items : Items) (failing : Known) (n : ℕ) (marks : List Boo
     MarkedSoFar (λ number. not (may_answer failing number success)) n marks → AreChecking items failing marks
 all-checking items failing n marks all so_far number low high = so_far.done number low (omega (arith, high, all))
 
-not-of : (b : Bool) → not b ≡ true → b ≡ false
+pub not-of : (b : Bool) → not b ≡ true → b ≡ false
 not-of true h = absurd (false≢true h)
 not-of false h = refl
 

@@ -3,8 +3,10 @@ use Rattle.std.proofs.Common.{◌≡◌, ◌∙◌, ◌+◌, ◌-◌, ◌≤◌,
 use Rattle.std.proofs.Common.{ap, arith, inl, inr, refl, subst, sym}
 use Rattle.std.proofs.lemmas.Bool.{cases_lt}
 use Rattle.std.specs.Option.{option_and_then}
-use Rattle.pam_arguments.specs.Verdicts.{Module, meaning}
-use Rattle.pam_arguments.specs.declared.lacks.Lack.{Lack}
+use Rattle.pam_facts.specs.Knowing.{meaning_of}
+use Rattle.pam_facts.specs.Rows.{Row}
+use Rattle.pam_facts.specs.arguments.Verdicts.{Module}
+use Rattle.pam_facts.specs.declared.arguments.lacks.Lack.{Lack}
 use Rattle.pam_conf.specs.Stack.{ModuleText}
 use Rattle.pam_conf.specs.declared.rule.Kind.{Kind}
 use Rattle.pam_findings.specs.host.Arguments.{wrong_at, wrong_by}
@@ -117,19 +119,19 @@ module _ (by_word : List ℕ → Option ArgumentProblem) (rule : ModuleText) whe
       ]
 
 -- of a module of which this is known
-pub arguments-known : (known : Module) (kind : Kind) (rule : ModuleText) (old new : List Spot) →
-    Adds (OfFound (λ word. wrong_by (meaning known kind word)) rule) old new → Adds (OfKnown (Some known) kind rule) old new
-arguments-known known kind rule old new h =
-    adds-iff (OfFound (λ word. wrong_by (meaning known kind word)) rule) (OfKnown (Some known) kind rule) old new
+pub arguments-known : (rows : List Row) (known : Module) (kind : Kind) (rule : ModuleText) (old new : List Spot) →
+    Adds (OfFound (λ word. wrong_by (meaning_of rows kind rule known word)) rule) old new → Adds (OfKnown rows (Some known) kind rule) old new
+arguments-known rows known kind rule old new h =
+    adds-iff (OfFound (λ word. wrong_by (meaning_of rows kind rule known word)) rule) (OfKnown rows (Some known) kind rule) old new
     (λ spot. (λ f. record { position = f.position; of = f.of }, λ k. record { position = k.position; of = k.of })) h
 
 -- of a module of which nothing is known
-pub arguments-unknown : (kind : Kind) (rule : ModuleText) (known : Option Module) (spots : List Spot) → known ≡ None →
-    Adds (OfKnown known kind rule) spots spots
-arguments-unknown kind rule known spots none =
-    adds-none (OfKnown known kind rule) spots
+pub arguments-unknown : (rows : List Row) (kind : Kind) (rule : ModuleText) (known : Option Module) (spots : List Spot) → known ≡ None →
+    Adds (OfKnown rows known kind rule) spots spots
+arguments-unknown rows kind rule known spots none =
+    adds-none (OfKnown rows known kind rule) spots
     (λ spot k.
-    let nothing : wrong_at known kind rule k.position ≡ None =
-    ap (λ (o : Option Module). wrong_at o kind rule k.position) none in
+    let nothing : wrong_at rows known kind rule k.position ≡ None =
+    ap (λ (o : Option Module). wrong_at rows o kind rule k.position) none in
     let no : None ≡ Some k.of.wrong = sym nothing ∙ k.of.is in
     absurd cc)

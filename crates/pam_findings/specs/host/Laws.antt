@@ -1,14 +1,17 @@
 -- What the definitions imply.
-use Rattle.std.specs.Prelude.{◌≡◌, ℕ, ◌<◌, Bool, true, false, All, IsSome, List, length, map, slice_index_or, Option, Some, None, Ok}
+use Rattle.std.specs.Prelude.{◌≡◌, ℕ, ◌<◌, Bool, true, false, not, All, IsSome, List, length, map, slice_index_or, Option, Some, None, Ok}
 use Rattle.std.specs.BTreeMap.{BTreeMap, get}
-use Rattle.pam_arguments.specs.declared.lacks.Lack.{Lack}
-use Rattle.pam_findings.specs.stack.Asked.{AsksWith}
+use Rattle.pam_facts.specs.declared.arguments.lacks.Lack.{Lack}
+use Rattle.pam_findings.specs.stack.Asked.{Asks, AsksWith}
 use Rattle.pam_findings.specs.stack.Counting.{Counts}
+use Rattle.pam_findings.specs.stack.Leading.{Leads}
 use Rattle.pam_findings.specs.stack.Soundness.{IsFirstWayIn, LetsIn}
+use Rattle.pam_codes.specs.Code.{all_codes}
 use Rattle.pam_conf.specs.Resolution.{resolved}
 use Rattle.pam_conf.specs.Stack.{IsNumbered, Items, ModuleText, module_at, module_count}
+use Rattle.pam_conf.specs.Targets.{is_target}
 use Rattle.pam_conf.specs.declared.rule.Kind.{Kind}
-use Rattle.pam_conf.specs.declared.rule.Kind.TheVariants.{Auth}
+use Rattle.pam_conf.specs.declared.rule.Kind.TheVariants.{Auth, Password}
 use Rattle.pam_dispatch.specs.Runs.{Assignment}
 use Rattle.pam_dispatch.specs.State.{start_state, success}
 use Rattle.pam_dispatch.specs.Tree.{asked, decided}
@@ -17,13 +20,18 @@ use Rattle.pam_paths.specs.Listing.{Allowance, IsAllowed}
 use Rattle.pam_paths.specs.Paths.{PathValue}
 use Rattle.pam_paths.specs.declared.knowledge.Known.{Known}
 use Rattle.pam_findings.specs.host.Callers.{caller_is_root, is_daemon_service, is_greeter}
+use Rattle.pam_findings.specs.host.Faillock.{has_task}
 use Rattle.pam_findings.specs.host.Host.{Host, Meets, Verdicts, service_at, survey_at}
-use Rattle.pam_findings.specs.host.Arguments.{lack_in, wrong_argument}
+use Rattle.pam_facts.specs.arguments.Calls.{lack_in}
+use Rattle.pam_findings.specs.host.Arguments.{wrong_argument}
 use Rattle.pam_findings.specs.host.Levels.{level_of, level_of_argument}
 use Rattle.pam_findings.specs.host.Links.{WithLinks}
+use Rattle.pam_findings.specs.host.MissingFiles.{missing_file}
 use Rattle.pam_findings.specs.host.OtherAnswers.{is_only_included}
 use Rattle.pam_findings.specs.host.Problems.{compare_places, place_of}
 use Rattle.pam_findings.specs.host.Report.{IsMetFinding, IsReportOn}
+use Rattle.pam_findings.specs.host.Storing.{failures, refuses, stores}
+use Rattle.pam_findings.specs.host.Tokens.{may_ask_for, only_takes}
 use Rattle.pam_findings.specs.host.Verdicts.{IsCauseOf, IsFailing, IsFree, IsOpen, LetsNobody, SaysWhoLogsIn, answers_on, way_in_of}
 use Rattle.pam_findings.specs.declared.host.alone.Whole.{Whole}
 use Rattle.pam_findings.specs.declared.host.alone.Whole.TheVariants.{Anybody, Nobody}
@@ -33,6 +41,7 @@ use Rattle.pam_findings.specs.declared.host.problem.Place.{Place}
 use Rattle.pam_findings.specs.declared.host.problem.Problem.{Problem}
 use Rattle.pam_findings.specs.declared.host.problem.Problem.TheVariants as problems
 use Rattle.pam_findings.specs.declared.host.problem.Spot.{Spot}
+use Rattle.pam_findings.specs.declared.host.refusing.Refuser.{Refuser}
 use Rattle.pam_findings.specs.declared.host.report.Finding.{Finding}
 use Rattle.pam_findings.specs.declared.host.way_in.Answered.{Answered}
 use Rattle.pam_findings.specs.declared.host.way_in.WayIn.{WayIn}
@@ -45,11 +54,37 @@ IsSilent found = All (λ entry. level_of entry.1.problem ≡ Note) found.entries
 abbrev pub IsAskedFor : Host → ℕ → Kind → Type 0
 IsAskedFor host service kind = is_only_included host.folder (service_at host service) (survey_at host service kind) ≡ false
 
+-- others include the file of the service
+abbrev pub is_included_at : Host → ℕ → Bool
+is_included_at host service = is_target host.folder (service_at host service)
+
+-- some run asks a module that may ask for a token, and then the module with this number
+abbrev pub SomeAsksBefore : Kind → Known → Items → ℕ → Type 0
+SomeAsksBefore kind free items number =
+    (first : ℕ) × (rule : ModuleText) × (module_at first items ≡ Some rule) × (may_ask_for kind rule ≡ true)
+    × Leads (may_answer free) items all_codes first number
+
+-- some run asks a rule of pam_faillock with this task
+abbrev pub SomeHasTask : Bool → Known → Items → Type 0
+SomeHasTask counts free items =
+    (number : ℕ) × (rule : ModuleText) × (module_at number items ≡ Some rule) × (has_task counts rule ≡ true) × Asks (may_answer free) items number
+
+-- some run asks a module that says who logs in, which fails, and then the module with this number
+abbrev pub SomeFailsBefore : Known → Known → Items → ℕ → Type 0
+SomeFailsBefore free failing items number = (first : ℕ) × SaysWhoLogsIn failing first × Leads (may_answer free) items failures first number
+
 -- A SOUND STACK of a service for a kind: it is accepted; if a program may ask for it, some answers let somebody in, unless its modules only
 -- deny and warn, or it begins with a denial that fails it; for auth, if a program may ask for it that is no greeter, none let in anybody
 -- whose checks all fail, and if somebody is let in, each module that says who logs in and may succeed does so in some run that lets
 -- somebody in; no module looks at the user of the process where that is root, in the service of a daemon that asks for auth; no module has
--- an argument that it does not take, but for what is a note; and the arguments of none lack anything
+-- an argument that it does not take, but for what is a note, or that names a file which it needs and which is not there; and the arguments
+-- of none lack anything.
+--
+-- If others do not include its file, a module that only takes a token and that some run asks is in some run asked after one that may ask
+-- for a token. For password, no run asks a module that stores a new password, for which it may ask itself, after one that refused it. For
+-- auth, if the stack has a rule of pam_faillock that counts failures, some run asks one that refuses who failed too often, and the other
+-- way round; and if others do not include its file, each rule that counts them and that some run asks is in some run asked after a module
+-- that says who logs in failed
 pub record IsSoundStack (host : Host) (service : ℕ) (kind : Kind) : Type 0 where
   pub items : Items
   pub stack : resolved host.folder (service_at host service) kind ≡ Ok items
@@ -63,10 +98,21 @@ pub record IsSoundStack (host : Host) (service : ℕ) (kind : Kind) : Type 0 whe
   pub counts : kind ≡ Auth → LetsIn (may_answer free) items → (number : ℕ) → SaysWhoLogsIn failing number →
       AsksWith (may_answer free) items number success → Counts (may_answer free) items number
   pub arguments : (number : ℕ) (rule : ModuleText) (position : ℕ) (wrong : ArgumentProblem) → module_at number items ≡ Some rule →
-      wrong_argument kind rule position ≡ Some wrong → level_of_argument wrong ≡ Note
+      wrong_argument host.modules.facts kind rule position ≡ Some wrong → level_of_argument wrong ≡ Note
+  pub files : (number : ℕ) (rule : ModuleText) (position : ℕ) (wrong : ArgumentProblem) → module_at number items ≡ Some rule →
+      missing_file host.modules.files kind rule position ≡ Some wrong → ⊥
   pub caller : (number : ℕ) (rule : ModuleText) → module_at number items ≡ Some rule → is_daemon_service (service_at host service) ≡ true →
       caller_is_root kind (service_at host service) rule ≡ true → ⊥
   pub whole : (number : ℕ) (rule : ModuleText) (lack : Lack) → module_at number items ≡ Some rule → lack_in kind rule ≡ Some lack → ⊥
+  pub tokens : is_included_at host service ≡ false → (number : ℕ) (rule : ModuleText) → module_at number items ≡ Some rule →
+      only_takes kind rule ≡ true → Asks (may_answer free) items number → SomeAsksBefore kind free items number
+  pub refusals : kind ≡ Password → (by : Refuser) (first later : ℕ) (refusing storing : ModuleText) →
+      module_at first items ≡ Some refusing → refuses by refusing ≡ true → module_at later items ≡ Some storing → stores storing ≡ true →
+      Leads (may_answer free) items failures first later → ⊥
+  pub tasks : kind ≡ Auth → (task : Bool) (number : ℕ) (rule : ModuleText) → module_at number items ≡ Some rule → has_task task rule ≡ true →
+      SomeHasTask (not task) free items
+  pub failures_count : kind ≡ Auth → is_included_at host service ≡ false → (number : ℕ) (rule : ModuleText) → module_at number items ≡ Some rule →
+      has_task true rule ≡ true → Asks (may_answer free) items number → SomeFailsBefore free failing items number
 
 -- each stack of a host without such a finding is sound
 abbrev pub SilentHostIsSound : Type 0

@@ -1,6 +1,6 @@
 -- How grave the findings of a host are.
 use Rattle.std.specs.Prelude.{Bool, false, if◌then◌else◌}
-use Rattle.pam_arguments.specs.declared.verdict.Reaction.TheVariants.{Ignores}
+use Rattle.pam_facts.specs.declared.arguments.verdict.Reaction.TheVariants.{Ignores}
 use Rattle.pam_conf.specs.declared.error.FaultKind.{FaultKind}
 use Rattle.pam_conf.specs.declared.error.FaultKind.TheVariants as faults
 use Rattle.pam_released.specs.declared.difference.Difference.{Difference}

@@ -3,10 +3,10 @@ use Rattle.std.specs.Prelude.{ℕ, ◌+◌, ◌*◌, Bool, if◌then◌else◌, 
 use Rattle.std.specs.Option.{option_cmp}
 use Rattle.std.specs.Ordering.{nat_cmp, ordering_then}
 use Rattle.std.specs.declared.cmp.Ordering.{Ordering}
-use Rattle.pam_arguments.specs.declared.lacks.Lack.{Lack}
-use Rattle.pam_arguments.specs.declared.lacks.Lack.TheVariants as lacks
-use Rattle.pam_arguments.specs.declared.verdict.Reaction.{Reaction}
-use Rattle.pam_arguments.specs.declared.verdict.Reaction.TheVariants.{Fails, Ignores, Logs}
+use Rattle.pam_facts.specs.declared.arguments.lacks.Lack.{Lack}
+use Rattle.pam_facts.specs.declared.arguments.lacks.Lack.TheVariants as lacks
+use Rattle.pam_facts.specs.declared.arguments.verdict.Reaction.{Reaction}
+use Rattle.pam_facts.specs.declared.arguments.verdict.Reaction.TheVariants.{Fails, Ignores, Logs}
 use Rattle.pam_codes.specs.declared.error.ControlError.{ControlError}
 use Rattle.pam_codes.specs.declared.error.ControlError.TheVariants.{BadControl, BadValue, BadAction, ZeroJump, OpenBracket}
 use Rattle.pam_conf.specs.declared.error.FaultKind.{FaultKind}
@@ -14,6 +14,8 @@ use Rattle.pam_conf.specs.declared.error.FaultKind.TheVariants as faults
 use Rattle.pam_conf.specs.declared.rule.Kind.{Kind}
 use Rattle.pam_conf.specs.declared.rule.Kind.TheVariants.{Auth, Account, Password, Session}
 use Rattle.pam_released.specs.Findings.{number_of}
+use Rattle.pam_findings.specs.declared.host.missing_files.Absence.{Absence}
+use Rattle.pam_findings.specs.declared.host.missing_files.Absence.TheVariants as absences
 use Rattle.pam_findings.specs.declared.host.problem.ArgumentProblem.{ArgumentProblem}
 use Rattle.pam_findings.specs.declared.host.problem.ArgumentProblem.TheVariants as arguments
 use Rattle.pam_findings.specs.declared.host.problem.Place.{Place}
@@ -54,6 +56,7 @@ rank_of_argument arguments.OtherKind = 77
 rank_of_argument arguments.BadValue = 78
 rank_of_argument arguments.NoToken = 80
 rank_of_argument arguments.Weak = 83
+rank_of_argument (arguments.MissingFile absence) = 84
 
 -- E1 to E18 of lines come first, then those of walks, then L1 to L10, A5, and S1 to S27
 abbrev pub rank_of : Problem → ℕ
@@ -108,9 +111,14 @@ number_of_reaction Ignores = 0
 number_of_reaction Logs = 1
 number_of_reaction Fails = 2
 
--- what the module does, where it does not know an argument
+abbrev pub number_of_absence : Absence → ℕ
+number_of_absence absences.Fails = 0
+number_of_absence absences.Passes = 1
+
+-- what the module does, where it does not know an argument, or the file of one is not there
 abbrev pub reaction_of : ArgumentProblem → ℕ
 reaction_of (arguments.Unknown reaction) = number_of_reaction reaction
+reaction_of (arguments.MissingFile absence) = number_of_absence absence
 reaction_of wrong = 0
 
 abbrev pub number_of_lack : Lack → ℕ
@@ -138,7 +146,7 @@ service_of problem = 0
 -- the number of its kind, in S10 with what tells of `other`; L10 of an `@include` has another one than that of a rule with a kind, S1 and
 -- S2 with a service than those without, S2 of a greeter than that of another service, S5 of a dashed rule than that of a rule without a
 -- dash, S14 of a daemon than that of another service, S22 of a rule that counts than that of another, and of one that counts after no
--- failure, S15 has one for what the module
+-- failure, S15 and S24 have one for what the module
 -- does, S19 one for what is lacking, and S21 one for the module that refuses
 abbrev pub kind_of : Problem → ℕ
 kind_of (problems.LetsNobodyIn service kind) = number_of_nobody service kind

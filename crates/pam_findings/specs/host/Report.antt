@@ -44,12 +44,12 @@ pub record AreWaysIn (host : Host) (verdicts : Verdicts) (ways : List (Option Wa
   pub count : length ways ≡ length host.services
   pub each : (service : ℕ) → service < length host.services → HasWayIn (verdicts service Auth) (slice_index_or ways service None)
 
-abbrev pub host_of : Folder → ℕ → List (List ℕ) → List Row → Option (List (List ℕ)) → Host
-host_of folder vendor_start named facts there = record {
+abbrev pub host_of : Folder → ℕ → List (List ℕ) → List Row → Option (List (List ℕ)) → Option (List (List ℕ)) → Host
+host_of folder vendor_start named facts there files = record {
   folder = folder;
   vendor_start = vendor_start;
   services = checked_services folder named;
-  modules = record { facts = facts; there = there };
+  modules = record { facts = facts; there = there; files = files };
 }
 
 -- THE REPORT on a host: the findings in the order of their places, each once, are exactly those of all problems at all lines
@@ -61,5 +61,6 @@ pub record IsReportOn (host : Host) (named : List (List ℕ)) (found : BTreeMap 
   pub findings : (spot : Spot) → IsFound host verdicts named spot (get compare_places found (place_of spot))
   pub ways_in : AreWaysIn host verdicts ways
 
-abbrev pub IsReport : Folder → ℕ → List (List ℕ) → List Row → Option (List (List ℕ)) → BTreeMap Place Finding → List (Option WayIn) → Type 0
-IsReport folder vendor_start named facts there found ways = IsReportOn (host_of folder vendor_start named facts there) named found ways
+abbrev pub IsReport : Folder → ℕ → List (List ℕ) → List Row → Option (List (List ℕ)) → Option (List (List ℕ)) → BTreeMap Place Finding
+    → List (Option WayIn) → Type 0
+IsReport folder vendor_start named facts there files found ways = IsReportOn (host_of folder vendor_start named facts there files) named found ways

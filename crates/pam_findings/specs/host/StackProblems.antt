@@ -14,9 +14,11 @@ use Rattle.pam_conf.specs.declared.rule.Kind.TheVariants.{Auth, Password}
 use Rattle.pam_text.specs.Members.{Member}
 use Rattle.pam_paths.specs.Known.{may_answer}
 use Rattle.pam_paths.specs.Paths.{PathValue}
-use Rattle.pam_findings.specs.host.Arguments.{lack_in, wrong_argument}
+use Rattle.pam_facts.specs.arguments.Calls.{lack_in}
+use Rattle.pam_findings.specs.host.Arguments.{wrong_argument}
 use Rattle.pam_findings.specs.host.Callers.{caller_is_root, is_daemon_service, is_greeter}
 use Rattle.pam_findings.specs.host.Faillock.{IsHalf, NoneFailsBefore, has_task}
+use Rattle.pam_findings.specs.host.MissingFiles.{missing_file}
 use Rattle.pam_findings.specs.host.Modules.{Modules}
 use Rattle.pam_findings.specs.host.OtherAnswers.{is_only_included}
 use Rattle.pam_findings.specs.host.Separators.{lacks_separator}
@@ -50,7 +52,7 @@ pub record IsAt (items : Items) (number : ℕ) (spot : Spot) (rule : ModuleText)
 abbrev pub HasModule : Items → Spot → (ℕ → ModuleText → Type 0) → Type 0
 HasModule items spot Passes = (number : ℕ) × (rule : ModuleText) × IsAt items number spot rule × Passes number rule
 
--- A5, S5, S13 to S19, S23, S25, in a stack of a service for a kind; and S3, if no stack may ask it
+-- A5, S5, S13 to S19, S23 to S25, in a stack of a service for a kind; and S3, if no stack may ask it
 abbrev pub ModuleHas : Modules → List ℕ → Kind → ModuleText → Problem → Type 0
 ModuleHas modules name kind rule problems.NeverAsked = is_other rule ≡ true
 ModuleHas modules name kind rule problems.EmptySeparator = lacks_separator rule ≡ true
@@ -58,7 +60,8 @@ ModuleHas modules name kind rule (problems.NoModule is_dashed) = (is_missing mod
 ModuleHas modules name kind rule problems.NoFunction = has_no_function modules.facts kind rule ≡ true
 ModuleHas modules name kind rule (problems.CallerIsRoot is_daemon) = (caller_is_root kind name rule ≡ true) × (is_daemon ≡ is_daemon_service name)
 ModuleHas modules name kind rule problems.UnknownModule = IsUnknown modules kind rule
-ModuleHas modules name kind rule (problems.Argument argument wrong) = wrong_argument kind rule argument ≡ Some wrong
+ModuleHas modules name kind rule (problems.Argument argument wrong) =
+    (wrong_argument modules.facts kind rule argument ≡ Some wrong) ⊎ (missing_file modules.files kind rule argument ≡ Some wrong)
 ModuleHas modules name kind rule (problems.BadArguments lack) = lack_in kind rule ≡ Some lack
 ModuleHas modules name kind rule problem = ⊥
 

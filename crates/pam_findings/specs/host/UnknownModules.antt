@@ -4,7 +4,7 @@ use Rattle.pam_conf.specs.Stack.{ModuleText}
 use Rattle.pam_conf.specs.declared.rule.Kind.{Kind}
 use Rattle.pam_conf.specs.declared.rule.Kind.TheVariants.{Auth}
 use Rattle.pam_facts.specs.Fitting.{has_row}
-use Rattle.pam_findings.specs.host.Arguments.{known_of}
+use Rattle.pam_facts.specs.arguments.Calls.{known_of}
 use Rattle.pam_findings.specs.host.Modules.{Modules}
 use Rattle.pam_findings.specs.host.Verdicts.{is_missing}
 

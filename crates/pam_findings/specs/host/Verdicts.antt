@@ -18,7 +18,6 @@ use Rattle.pam_dispatch.specs.State.{success}
 use Rattle.pam_facts.specs.Answers.{Allows, failing_answers, free_answers, is_there}
 use Rattle.pam_facts.specs.Facts.{has_function}
 use Rattle.pam_facts.specs.Fitting.{fact_of}
-use Rattle.pam_facts.specs.Missing.{where_there}
 use Rattle.pam_facts.specs.Paths.{module_name}
 use Rattle.pam_facts.specs.Rows.{Row}
 use Rattle.pam_paths.specs.Known.{may_answer}
@@ -27,24 +26,18 @@ use Rattle.pam_paths.specs.Paths.{PathValue, StepValue}
 use Rattle.pam_paths.specs.declared.knowledge.Known.{Known}
 use Rattle.pam_findings.specs.host.Causes.{IsCause}
 use Rattle.pam_findings.specs.host.Closed.{begins_closed}
-use Rattle.pam_findings.specs.host.Failing.{with_failures}
 use Rattle.pam_findings.specs.host.Modules.{Modules}
 use Rattle.pam_findings.specs.declared.host.causes.Causes.{Causes}
 use Rattle.pam_findings.specs.declared.host.alone.Whole.{Whole}
 use Rattle.pam_findings.specs.declared.host.alone.Whole.TheVariants.{Anybody, Nobody}
 use Rattle.pam_findings.specs.declared.host.way_in.Answered.{Answered}
 
--- the codes of modules, if these are what facts say: one that does not take its arguments fails, and one that is not there answers
--- module_unknown alone
-abbrev pub as_they_are : Modules → Kind → Items → (ℕ → List ℕ) → ℕ → List ℕ
-as_they_are modules kind items codes = where_there modules.there items (with_failures kind items codes)
-
 -- the answers of the modules of a stack, as far as facts say, and those if each module that checks who logs in fails
 abbrev pub IsFree : Modules → Kind → Items → Known → Type 0
-IsFree modules kind items known = Allows (module_count items) known (as_they_are modules kind items (free_answers kind modules.facts None items))
+IsFree modules kind items known = Allows (module_count items) known (free_answers kind modules.facts modules.there items)
 
 abbrev pub IsFailing : Modules → Kind → Items → Known → Type 0
-IsFailing modules kind items known = Allows (module_count items) known (as_they_are modules kind items (failing_answers kind modules.facts None items))
+IsFailing modules kind items known = Allows (module_count items) known (failing_answers kind modules.facts modules.there items)
 
 -- the name of a module is that of one that denies, or only warns
 abbrev pub denies_or_warns : List ℕ → Bool

@@ -15,5 +15,6 @@ pub mod SoFar
 pub mod Storing
 pub mod Table
 pub mod Taking
+pub mod Targets
 pub mod Uncounted
 pub mod WrongArguments

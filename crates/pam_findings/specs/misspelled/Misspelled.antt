@@ -1,28 +1,30 @@
--- The word that is wrong in a line, with the nearest right word.
+-- The word of a line that a finding is about, with the nearest right word if it is wrong.
 use Rattle.std.specs.Prelude.{ℕ, List, [], Option, None}
 use Rattle.std.specs.Option.{option_and_then, option_map}
-use Rattle.pam_arguments.specs.Modules.{nearest_argument}
-use Rattle.pam_arguments.specs.Table.{module_named}
+use Rattle.pam_facts.specs.arguments.Modules.{nearest_argument}
+use Rattle.pam_facts.specs.arguments.Table.{module_named}
 use Rattle.pam_codes.specs.declared.error.ControlError.TheVariants.{BadControl}
 use Rattle.pam_conf.specs.FaultWord.{word_at_fault}
 use Rattle.pam_conf.specs.declared.error.FaultKind.{FaultKind}
-use Rattle.pam_conf.specs.declared.error.FaultKind.TheVariants.{Control}
+use Rattle.pam_conf.specs.declared.error.FaultKind.TheVariants.{Control, NoService}
 use Rattle.pam_conf.specs.declared.rule.Form.{Form}
 use Rattle.pam_facts.specs.Paths.{module_name}
 use Rattle.pam_facts.specs.known.Answers.{name_of_path}
 use Rattle.pam_findings.specs.declared.host.problem.ArgumentProblem.{ArgumentProblem}
-use Rattle.pam_findings.specs.declared.host.problem.ArgumentProblem.TheVariants.{BadValue, Longer, NoToken, OtherKind, Unknown, Weak}
+use Rattle.pam_findings.specs.declared.host.problem.ArgumentProblem.TheVariants.{BadValue, Longer, MissingFile, NoToken, OtherKind, Unknown, Weak}
 use Rattle.pam_findings.specs.misspelled.Pairs.{wrong_in}
 use Rattle.pam_findings.specs.misspelled.Paths.{argument_in, path_in}
 use Rattle.pam_findings.specs.misspelled.RightWords.{nearest_module, nearest_right}
+use Rattle.pam_findings.specs.declared.misspelled.spot.Spot.{Spot}
 use Rattle.pam_findings.specs.declared.misspelled.word.Wrong.{Wrong}
-use Rattle.pam_findings.specs.declared.misspelled.word.Wrong.TheVariants.{Argument, Fault, NoModule}
+use Rattle.pam_findings.specs.declared.misspelled.word.Wrong.TheVariants.{Argument, Fault, NoModule, Path, Target}
 
--- a word that is wrong, the name of the module of which it is an argument, if it is one, and the nearest right word
+-- a word, the name of the module of which it is an argument, if it is one, the nearest right word, and where it stands in its file
 pub record MisspelledText : Type 0 where
   pub of : List ℕ
   pub word : List ℕ
   pub nearest : Option (List ℕ)
+  pub spot : Option Spot
 
 -- the names of files, and the modules that are there
 pub record Right : Type 0 where
@@ -37,15 +39,17 @@ fault_word form fault line = word_at_fault form fault line
 abbrev pub wrong_word : Form → Wrong → List ℕ → Option (List ℕ)
 wrong_word form (Fault fault) line = fault_word form fault line
 wrong_word form NoModule line = path_in form line
+wrong_word form Path line = path_in form line
+wrong_word form Target line = word_at_fault form NoService line
 wrong_word form (Argument position wrong) line = argument_in form position line
 
 abbrev pub nearest_to : Right → Wrong → List ℕ → Option (List ℕ)
 nearest_to right (Fault fault) word = nearest_right right.files fault word
 nearest_to right NoModule path = nearest_module right.modules path
-nearest_to right (Argument position wrong) word = None
+nearest_to right why word = None
 
 abbrev pub with_nearest : Right → Wrong → List ℕ → MisspelledText
-with_nearest right wrong word = record { of = []; word = word; nearest = nearest_to right wrong word }
+with_nearest right wrong word = record { of = []; word = word; nearest = nearest_to right wrong word; spot = None }
 
 -- the nearest of the arguments that the module at a path knows
 abbrev pub nearest_known : List ℕ → List ℕ → Option (List ℕ)
@@ -59,15 +63,20 @@ nearest_by OtherKind path word = None
 nearest_by BadValue path word = None
 nearest_by NoToken path word = None
 nearest_by Weak path word = None
+nearest_by (MissingFile absence) path word = None
 
 abbrev pub of_argument : ArgumentProblem → List ℕ → List ℕ → MisspelledText
-of_argument wrong path word = record { of = name_of_path path; word = word; nearest = nearest_by wrong path word }
+of_argument wrong path word = record { of = name_of_path path; word = word; nearest = nearest_by wrong path word; spot = None }
 
 abbrev pub misspelled_argument : Form → ℕ → ArgumentProblem → List ℕ → Option MisspelledText
 misspelled_argument form position wrong line =
     option_and_then (λ path. option_map (of_argument wrong path) (argument_in form position line)) (path_in form line)
 
--- THE WORD THAT IS WRONG in a line
+-- THE WORD of a line that a finding is about, wherever it stands
 abbrev pub misspelled_in : Right → Form → Wrong → List ℕ → Option MisspelledText
 misspelled_in right form (Argument position wrong) line = misspelled_argument form position wrong line
 misspelled_in right form why line = option_map (with_nearest right why) (wrong_word form why line)
+
+-- the same with its spot
+abbrev pub with_spot : Option Spot → MisspelledText → MisspelledText
+with_spot spot m = record { of = m.of; word = m.word; nearest = m.nearest; spot = spot }

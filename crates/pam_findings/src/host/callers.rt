@@ -167,7 +167,7 @@ pub(crate) fn is_greeter(service: &[u8]) -> bool
     is_among(greeter_services(), service)
 }
 
-fn has_argument(wanted: &[u8], arguments: &Texts) -> bool
+pub(crate) fn has_argument(wanted: &[u8], arguments: &Texts) -> bool
     ensures { result ≡ list_any (λ argument. bytes_eq argument wanted.now) arguments.now }
 {
     arguments.iter().any(|argument| argument == wanted)

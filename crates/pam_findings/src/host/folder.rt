@@ -8,7 +8,8 @@ ghost use Rattle.pam_findings.specs.host.inner.Table.{Puts, with_met};
 use crate::host::names::is_unreachable;
 use crate::host::problem::{Problem, Spot};
 use crate::host::table::{Table, put};
-use pam_conf::{Files, Form, RuleFiles, is_left_over};
+use crate::host::targets::Targets;
+use pam_conf::{Files, Form, is_left_over};
 use pam_text::Texts;
 use std::alloc::AllocError;
 
@@ -26,12 +27,12 @@ fn has_other(files: &Files) -> bool
 }
 
 /// What is wrong with the name of a file: S7 or S11.
-fn problem_of_name(rules: &RuleFiles<'_>, name: &[u8]) -> Option<Problem>
-    ensures { result ≡ problem_of_name rules.now name.now }
+fn problem_of_name(targets: &Targets<'_>, name: &[u8]) -> Option<Problem>
+    ensures { result ≡ problem_of_name targets.now name.now }
 {
     if is_left_over(name) {
         Some(Problem::LeftOver)
-    } else if is_unreachable(name) && !rules.is_target(name) {
+    } else if is_unreachable(name) && !targets.has(name) {
         Some(Problem::UnreachableName)
     } else {
         None
@@ -41,13 +42,13 @@ fn problem_of_name(rules: &RuleFiles<'_>, name: &[u8]) -> Option<Problem>
 /// Adds what is wrong with the name of the file at a position.
 fn put_name(
     table: &mut Table,
-    rules: &RuleFiles<'_>,
+    targets: &Targets<'_>,
     name: &[u8],
     file: usize,
 ) -> Result<(), AllocError>
-    ensures { OnOk result (Puts (HasNameProblem rules.now name.now file) (with_met None) table.old table.new) }
+    ensures { OnOk result (Puts (HasNameProblem targets.now name.now file) (with_met None) table.old table.new) }
 {
-    let Some(problem) = problem_of_name(rules, name) else {
+    let Some(problem) = problem_of_name(targets, name) else {
         return Ok(());
     };
     let spot = Spot {
@@ -59,13 +60,13 @@ fn put_name(
 }
 
 /// Adds what is wrong with the names of files.
-fn put_names(table: &mut Table, files: &Files, rules: &RuleFiles<'_>) -> Result<(), AllocError>
-    requires { rules.now ≡ files.now }
+fn put_names(table: &mut Table, files: &Files, targets: &Targets<'_>) -> Result<(), AllocError>
+    requires { targets.now ≡ files.now }
     ensures { OnOk result (Puts (IsNameProblem files.now (length files.now.entries)) (with_met None) table.old table.new) }
 {
     for file in 0..files.len() {
         let name = files.name(file).unwrap();
-        put_name(table, rules, name, file)?;
+        put_name(table, targets, name, file)?;
     }
     Ok(())
 }
@@ -86,13 +87,13 @@ fn put_other(table: &mut Table, files: &Files) -> Result<(), AllocError>
 }
 
 /// Adds what is wrong with a folder itself.
-fn put_whole(table: &mut Table, files: &Files, rules: &RuleFiles<'_>) -> Result<(), AllocError>
-    requires { rules.now ≡ files.now }
+fn put_whole(table: &mut Table, files: &Files, targets: &Targets<'_>) -> Result<(), AllocError>
+    requires { targets.now ≡ files.now }
     ensures { OnOk result (Puts (λ spot. LacksOther files.now spot ⊎ IsNameProblem files.now (length files.now.entries) spot)
         (with_met None) table.old table.new) }
 {
     put_other(table, files)?;
-    put_names(table, files, rules)?;
+    put_names(table, files, targets)?;
     Ok(())
 }
 
@@ -100,17 +101,17 @@ fn put_whole(table: &mut Table, files: &Files, rules: &RuleFiles<'_>) -> Result<
 pub(crate) fn put_folder(
     table: &mut Table,
     files: &Files,
-    rules: &RuleFiles<'_>,
+    targets: &Targets<'_>,
     named: &Texts,
 ) -> Result<(), AllocError>
-    requires { rules.now ≡ files.now }
+    requires { targets.now ≡ files.now }
     ensures { OnOk result (Puts (λ spot. is_of_folder files.now named.now spot ≡ true) (with_met None) table.old table.new) }
 {
     if named.len() != 0 {
         return Ok(());
     }
     match files.form() {
-        Form::Dir => put_whole(table, files, rules),
+        Form::Dir => put_whole(table, files, targets),
         Form::Single => Ok(()),
     }
 }

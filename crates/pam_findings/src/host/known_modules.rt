@@ -1,29 +1,23 @@
 //! What is known of the modules of a host.
 
-ghost use Rattle.std.specs.Prelude.{◌≡◌, ℕ, List, IsFalse, IsTrue};
+ghost use Rattle.std.specs.Prelude.{◌≡◌, IsFalse, IsTrue};
 ghost use Rattle.std.specs.Option.{option_map};
 ghost use Rattle.pam_conf.specs.ItemsOf.{module_text};
-ghost use Rattle.pam_conf.specs.Stack.{module_count};
-ghost use Rattle.pam_facts.specs.Answers.{Allows};
-ghost use Rattle.pam_facts.specs.Missing.{where_there};
-ghost use Rattle.pam_findings.specs.host.Failing.{with_failures};
 ghost use Rattle.pam_findings.specs.host.UnknownModules.{IsUnknown};
 ghost use Rattle.pam_findings.specs.host.Verdicts.{IsFailing, IsFree, has_no_function, is_missing};
 
-use crate::host::arguments::known_of;
-use crate::host::failing::set_failing;
-use pam_arguments::Arguments;
+use crate::host::report::Installed;
 use pam_conf::{Kind, Module, NameList, Stack};
-use pam_facts::{Facts, is_there, set_missing};
+use pam_facts::arguments::known_of;
+use pam_facts::{Facts, is_there};
 use pam_paths::Known;
 use std::marker::Model;
 
-/// Facts of modules, the table of their arguments, and the paths at which one is there, as rules write them; `None` if that is not known.
+/// Facts of modules, and what is there of that which rules name.
 #[derive(Drop)]
 pub(crate) struct Modules<'x, 'f> {
     facts: &'x Facts<'f>,
-    arguments: &'x Arguments,
-    there: Option<&'x NameList>,
+    installed: Installed<'x>,
 }
 
 impl<'x, 'f> Model for Modules<'x, 'f> {
@@ -32,34 +26,43 @@ impl<'x, 'f> Model for Modules<'x, 'f> {
 
     ghost Value = { ModulesText };
 
-    ghost view = { λ m. record { facts = m.facts.now; there = option_map (λ t. t.now) m.there } };
+    ghost view = { λ m. record {
+      facts = m.facts.now;
+      there = option_map (λ t. t.now) m.installed.modules;
+      files = option_map (λ t. t.now) m.installed.files;
+    } };
 }
 
 impl<'x, 'f> Modules<'x, 'f> {
-    pub(crate) fn new(
-        facts: &'x Facts<'f>,
-        arguments: &'x Arguments,
-        there: Option<&'x NameList>,
-    ) -> Modules<'x, 'f>
-        ensures { result ≡ record { facts = facts.now; there = option_map (λ t. t.now) there.entry } }
+    pub(crate) fn new(facts: &'x Facts<'f>, installed: Installed<'x>) -> Modules<'x, 'f>
+        ensures { result ≡ record {
+          facts = facts.now;
+          there = option_map (λ t. t.now) installed.entry.modules;
+          files = option_map (λ t. t.now) installed.entry.files;
+        } }
     {
-        Modules {
-            facts,
-            arguments,
-            there,
-        }
+        Modules { facts, installed }
     }
 
-    /// What is known of the arguments of modules.
-    pub(crate) fn arguments(&self) -> &Arguments {
-        self.arguments
+    /// The facts of modules.
+    pub(crate) fn facts(&self) -> &Facts<'f>
+        ensures { result.now ≡ self.now.facts }
+    {
+        self.facts
+    }
+
+    /// The arguments that name a file which is there, if that is known.
+    pub(crate) fn files(&self) -> Option<&NameList>
+        ensures { option_map (λ t. t.now) result ≡ self.now.files }
+    {
+        self.installed.files
     }
 
     /// Whether a module is not there, as far as it is known which are.
     pub(crate) fn is_missing(&self, module: &Module) -> bool
         ensures { result ≡ is_missing self.now (module_text «module».now) }
     {
-        !is_there(self.there, &module.path)
+        !is_there(self.installed.modules, &module.path)
     }
 
     /// Whether a module has no function in a kind.
@@ -80,33 +83,21 @@ impl<'x, 'f> Modules<'x, 'f> {
         kind == Kind::Auth
             && !self.is_missing(module)
             && !self.facts.has_row(&module.path, &module.arguments)
-            && known_of(self.arguments, module).is_none()
+            && known_of(self.facts.arguments(), module).is_none()
     }
 
     /// The codes that the modules of a stack can answer.
     pub(crate) fn answers(&self, stack: &Stack, kind: Kind) -> Known
         ensures { IsFree self.now kind stack.now result }
     {
-        let mut known = self.facts.answers(stack, kind, None);
-        self.restrict(stack, kind, &mut known);
-        known
+        self.facts.answers(stack, kind, self.installed.modules)
     }
 
     /// The same, where each module that checks who logs in fails.
     pub(crate) fn answers_if_checks_fail(&self, stack: &Stack, kind: Kind) -> Known
         ensures { IsFailing self.now kind stack.now result }
     {
-        let mut known = self.facts.answers_if_checks_fail(stack, kind, None);
-        self.restrict(stack, kind, &mut known);
-        known
-    }
-
-    /// Leaves modules the codes that they have by their arguments, and where they are not there.
-    fn restrict(&self, stack: &Stack, kind: Kind, known: &mut Known)
-        ensures { (codes : ℕ → List ℕ) → Allows (module_count stack.now) known.old codes
-            → Allows (module_count stack.now) known.new (where_there self.now.there stack.now (with_failures kind stack.now codes)) }
-    {
-        set_failing(self.arguments, kind, stack, known);
-        set_missing(self.there, stack, known);
+        self.facts
+            .answers_if_checks_fail(stack, kind, self.installed.modules)
     }
 }

@@ -7,6 +7,9 @@ ghost use Rattle.pam_findings.specs.host.Laws.{WholesAreToldOnce};
 /// answers of its modules let somebody in, unless they only deny and warn, or the stack begins with a denial that fails it. If it is
 /// one of `auth`, and the service is not that of a greeter, no answers let in anybody whose checks all fail. The last two are not said of
 /// a service whose file has no rule of the kind, so that `other` answers, and is one that others include: no program asks for it.
+///
+/// What is said of a run that asks one module after another is that there is such a run, or that there is none: another run may ask the
+/// later module alone.
 pub fn a_silent_host_is_sound()
     ensures { SilentHostIsSound }
 {}

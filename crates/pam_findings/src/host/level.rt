@@ -4,8 +4,8 @@ ghost use Rattle.std.specs.Prelude.{◌≡◌};
 ghost use Rattle.pam_findings.specs.host.Levels.{level_of, level_of_argument, level_of_difference, level_of_fault};
 
 use crate::host::problem::{ArgumentProblem, Problem};
-use pam_arguments::Reaction;
 use pam_conf::FaultKind;
+use pam_facts::arguments::Reaction;
 use pam_released::Difference;
 
 /// How grave a finding is, from the least to the most.
@@ -43,7 +43,8 @@ fn level_of_argument(wrong: ArgumentProblem) -> Level
         | ArgumentProblem::Longer
         | ArgumentProblem::BadValue
         | ArgumentProblem::NoToken
-        | ArgumentProblem::Weak => Level::Warning,
+        | ArgumentProblem::Weak
+        | ArgumentProblem::MissingFile(_) => Level::Warning,
     }
 }
 

@@ -66,7 +66,7 @@ fn push_if(
     Ok(())
 }
 
-/// Appends the problems that a module of a stack has by itself: A5, S5, S13 to S19, S23, S25, and S3 if no stack may ask it.
+/// Appends the problems that a module of a stack has by itself: A5, S5, S13 to S19, S23 to S25, and S3 if no stack may ask it.
 fn push_of_rule(
     spots: &mut Vec<Spot>,
     modules: &Modules<'_, '_>,
@@ -93,7 +93,7 @@ fn push_of_rule(
     )?;
     let lacks_separator = lacks_separator(module);
     push_if(spots, module, lacks_separator, Problem::EmptySeparator)?;
-    push_arguments(spots, modules.arguments(), kind, module)?;
+    push_arguments(spots, modules.facts(), modules.files(), kind, module)?;
     let is_unknown = modules.is_unknown(module, kind);
     push_if(spots, module, is_unknown, Problem::UnknownModule)?;
     Ok(())

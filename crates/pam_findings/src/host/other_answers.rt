@@ -10,8 +10,9 @@ ghost use Rattle.pam_findings.specs.host.inner.Table.{Adds};
 use crate::host::judging::Stacked;
 use crate::host::problem::{Problem, Spot};
 use crate::host::stacks::Checker;
+use crate::host::targets::Targets;
 use crate::host::unasked::never_asks;
-use pam_conf::{Kind, RuleFiles, Survey, is_sound};
+use pam_conf::{Kind, Survey, is_sound};
 use std::alloc::AllocError;
 
 /// The other one of auth and account; `None` for the other kinds.
@@ -65,16 +66,16 @@ pub(crate) fn other_answers(
     };
     let has_own = has_own_rules(checker, name, partner)?;
     let has_no_rule = has_no_rule(checker, name)?;
-    let is_service = (has_own || has_no_rule) && !checker.rules.is_target(name);
+    let is_service = (has_own || has_no_rule) && !checker.targets.has(name);
     let is_asked_for = is_service && !never_asks(name, kind);
     Ok(is_asked_for.then_some(has_no_rule))
 }
 
 /// Whether no program asks for the service: it has no rules of its own for the kind of this survey, and its file is one that others include.
-pub(crate) fn is_only_included(rules: &RuleFiles<'_>, name: &[u8], survey: &Survey) -> bool
-    ensures { result ≡ is_only_included rules.now name.now (survey_text survey.now) }
+pub(crate) fn is_only_included(targets: &Targets<'_>, name: &[u8], survey: &Survey) -> bool
+    ensures { result ≡ is_only_included targets.now name.now (survey_text survey.now) }
 {
-    survey.other_answers && rules.is_target(name)
+    survey.other_answers && targets.has(name)
 }
 
 /// Appends S10 of a stack, where `other` answers, which may be known to let nobody in.

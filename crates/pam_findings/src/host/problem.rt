@@ -5,10 +5,11 @@ ghost use Rattle.pam_findings.specs.host.Problems.{kind_of, number_of_answer, nu
 ghost use Rattle.pam_findings.specs.host.Problems.{number_of_reaction, number_of_refuser, place_of, rank_of};
 ghost use Rattle.pam_findings.specs.host.Problems.{rank_of_argument, rank_of_control, rank_of_fault, reaction_of, service_of};
 
+use crate::host::missing_files::Absence;
 use crate::host::refusing::Refuser;
-use pam_arguments::{Lack, Reaction};
 use pam_codes::ControlError;
 use pam_conf::{FaultKind, Kind};
+use pam_facts::arguments::{Lack, Reaction};
 use pam_released::Difference;
 
 /// What is wrong with an argument of a rule.
@@ -26,6 +27,8 @@ pub enum ArgumentProblem {
     NoToken,
     /// S23: with it the module stores passwords by a hash that is broken.
     Weak,
+    /// S24: it names a file that is not there, and this is what the module does without it.
+    MissingFile(Absence),
 }
 
 /// What is wrong.
@@ -100,7 +103,7 @@ pub enum Problem {
         /// Whether the service is that of a daemon, which asks on behalf of whoever comes.
         is_daemon: bool,
     },
-    /// S15 to S18, S20, S23: an argument is not one that the module takes, or not one to be written.
+    /// S15 to S18, S20, S23, S24: an argument is not one that the module takes, or not one to be written.
     Argument {
         /// The position of the argument in the rule, from 0.
         argument: usize,
@@ -263,12 +266,13 @@ fn number_of_refuser(by: Refuser) -> u8
     }
 }
 
-/// What the module does, by its number, where it does not know an argument; else 0.
+/// What the module does, by its number, where it does not know an argument, or the file of one is not there; else 0.
 fn reaction_of(wrong: ArgumentProblem) -> u8
     ensures { result ≡ reaction_of wrong }
 {
     match wrong {
         ArgumentProblem::Unknown(reaction) => number_of_reaction(reaction),
+        ArgumentProblem::MissingFile(absence) => absence.number(),
         ArgumentProblem::Longer
         | ArgumentProblem::OtherKind
         | ArgumentProblem::BadValue
@@ -287,6 +291,7 @@ fn rank_of_argument(wrong: ArgumentProblem) -> u8
         ArgumentProblem::BadValue => 78,
         ArgumentProblem::NoToken => 80,
         ArgumentProblem::Weak => 83,
+        ArgumentProblem::MissingFile(_) => 84,
     }
 }
 

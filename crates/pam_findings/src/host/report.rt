@@ -16,8 +16,8 @@ use crate::host::own::put_files;
 use crate::host::problem::{Place, Problem};
 use crate::host::stacks::{Checker, Found};
 use crate::host::table::remove_all;
+use crate::host::targets::Targets;
 use crate::host::way_in::WayIn;
-use pam_arguments::Arguments;
 use pam_conf::{Files, NameList, RuleFiles, checked_services};
 use pam_facts::Facts;
 use pam_text::Texts;
@@ -29,6 +29,15 @@ use std::collections::BTreeMap;
 pub struct Finding {
     pub problem: Problem,
     pub met: Option<Met>,
+}
+
+/// What is there of that which rules name, as they write it; `None` where that is not known.
+#[derive(Clone, Copy)]
+pub struct Installed<'a> {
+    /// The paths at which a module is there.
+    pub modules: Option<&'a NameList>,
+    /// The arguments that name a file which is there.
+    pub files: Option<&'a NameList>,
 }
 
 /// What is wrong with a host.
@@ -49,10 +58,10 @@ impl HostReport {
     /// In a folder each file is a service, but for those whose names have a capital letter or are left over (S11). In pam.conf
     /// each service that a rule names is one. If there is none, `other` is checked. Where it is not, the faults of its files and its
     /// walks are met by each stack of their kinds, since Linux-PAM reads them whichever service is asked for. Each file is read once. Takes time in
-    /// proportion to the files, for each rule that the stacks walk to the facts, and for each name with a capital letter to the rules.
+    /// proportion to the files, and for each rule that the stacks walk to the facts.
     ///
-    /// `there` has the paths at which a module is there, as rules write them. A module that is not there (S5) answers
-    /// `module_unknown` alone. With `None` that is not known, and each is taken to be there.
+    /// A module that is not there (S5) answers `module_unknown` alone. Where it is not known which modules are there, or the files of which
+    /// arguments (S24), each is taken to be there.
     ///
     /// From the position `vendor_start` on the files are those that only the vendor folder has, which no rule is to include (L10). Where
     /// there is no such folder, it is the number of files.
@@ -62,22 +71,23 @@ impl HostReport {
         vendor_start: usize,
         named: &Texts,
         facts: &Facts<'_>,
-        there: Option<&NameList>,
+        installed: Installed<'_>,
     ) -> Result<HostReport, AllocError>
         ensures services { IfOk result (λ r. r.services ≡ checked_services files.now named.now) }
-        ensures report { IfOk result (λ r. IsReport files.now vendor_start named.now facts.now (option_map (λ t. t.now) there.entry)
-            r.found r.ways_in.items) }
+        ensures report { IfOk result (λ r. IsReport files.now vendor_start named.now facts.now (option_map (λ t. t.now) installed.entry.modules)
+            (option_map (λ t. t.now) installed.entry.files) r.found r.ways_in.items) }
     {
         let rules = RuleFiles::read(alloc, files)?;
+        let targets = Targets::of(alloc, &rules)?;
         let services = checked_services(alloc, files, &rules, named)?;
         let mut found = Found::nothing(alloc, files.len())?;
         let beside = Beside::of(alloc, &rules, &services)?;
-        let arguments = Arguments::table(alloc)?;
-        let modules = Modules::new(facts, &arguments, there);
+        let modules = Modules::new(facts, installed);
         let checker = Checker {
             alloc,
             files,
             rules: &rules,
+            targets: &targets,
             vendor_start,
             beside: &beside,
             modules: &modules,
@@ -93,7 +103,7 @@ impl HostReport {
         push_cut_off(alloc, &mut asked, &rules, cut_off)?;
         remove_all(&mut table, &asked);
         put_files(&checker, &readers, &mut table)?;
-        put_folder(&mut table, files, &rules, named)?;
+        put_folder(&mut table, files, &targets, named)?;
         // The length says that the entries are in order.
         let _count = table.len();
         Ok(HostReport {

@@ -36,6 +36,7 @@ use crate::host::other_answers::{is_only_included, other_answers, push_other};
 use crate::host::problem::Spot;
 use crate::host::readers::note_read;
 use crate::host::table::{Table, put_stack_at_all};
+use crate::host::targets::Targets;
 use crate::host::walk::push_walk;
 use crate::host::way_in::WayIn;
 use pam_conf::laws::stack_is_sound_survey;
@@ -44,18 +45,20 @@ use pam_text::Texts;
 use std::alloc::{AllocError, Global};
 use std::collections::BTreeMap;
 
-/// What the services are checked by: the files, what was read of them, which of them only the vendor folder has, what is read of
-/// `other` beside the services, and what is known of modules.
+/// What the services are checked by: the files, what was read of them, the names that rules include, which files only the vendor folder
+/// has, what is read of `other` beside the services, and what is known of modules.
 #[derive(Drop)]
 pub(crate) struct Checker<'x, 'f> {
     pub alloc: Global,
     pub files: &'x Files,
     pub rules: &'x RuleFiles<'x>,
+    pub targets: &'x Targets<'x>,
     /// The position from which on the files are those that only the vendor folder has.
     pub vendor_start: usize,
     pub beside: &'x Beside,
     pub modules: &'x Modules<'x, 'f>,
     ghost same: { rules.now ≡ files.now },
+    ghost same_targets: { targets.now ≡ rules.now },
 }
 
 /// What is found so far: the findings, where S3 is found of each rule that does not deny or only warn; S3 of each rule that a
@@ -201,8 +204,8 @@ impl Checker<'_, '_> {
             kind,
             named: self.named(service),
             home: survey.reached.first().copied(),
-            is_only_included: is_only_included(self.rules, name, &survey),
-            is_included: self.rules.is_target(name),
+            is_only_included: is_only_included(self.targets, name, &survey),
+            is_included: self.targets.has(name),
             is_greeter: is_greeter(name),
         };
         self.add_beside(&mut found.table, at, name, &survey)?;

@@ -1,4 +1,4 @@
-//! The word that is wrong in a line.
+//! The word of a line that a finding is about.
 
 ghost use Rattle.std.specs.Prelude.{◌≡◌, IfOk};
 ghost use Rattle.std.specs.Option.{option_map};
@@ -11,21 +11,26 @@ use crate::host::ArgumentProblem;
 use crate::misspelled::pairs::wrong_in;
 use crate::misspelled::path::{argument_in, path_in};
 use crate::misspelled::right_words::{nearest_module, nearest_right};
-use pam_arguments::Arguments;
+use crate::misspelled::spot::Spot;
 use pam_codes::ControlError;
 use pam_conf::{FaultKind, Form, word_at_fault};
+use pam_facts::arguments::Arguments;
 use pam_facts::known::name_of_path;
 use pam_facts::module_name;
 use std::alloc::{AllocError, Global};
 
-/// Why a word is wrong.
+/// Which word of its line a finding is about.
 #[derive(Clone, Copy)]
 pub(crate) enum Wrong {
-    /// The line has this fault.
+    /// That of this fault of the line.
     Fault(FaultKind),
-    /// The module that the line names is not there.
+    /// The path of a module that is not there.
     NoModule,
-    /// This is wrong with the argument at a position.
+    /// The path of another module.
+    Path,
+    /// The target of an include.
+    Target,
+    /// The argument at a position, with which this is wrong.
     Argument(usize, ArgumentProblem),
 }
 
@@ -37,15 +42,17 @@ pub(crate) struct RightNames<'a> {
     pub arguments: &'a Arguments,
 }
 
-/// A word that is wrong in a line.
+/// A word that a finding is about.
 #[derive(Drop)]
 pub struct Misspelled {
     /// The name of the module of which the word is an argument; empty for another word.
     pub module: Vec<u8>,
     /// As it is written, but a kind without its dash, and a target without its folder.
     pub word: Vec<u8>,
-    /// The nearest right word, if one is near.
+    /// The nearest right word, if it is wrong and one is near.
     pub nearest: Option<Vec<u8>>,
+    /// Where it stands in its file.
+    pub spot: Option<Spot>,
 }
 
 fn owned_if_any(alloc: Global, word: Option<&[u8]>) -> Result<Option<Vec<u8>>, AllocError>
@@ -68,7 +75,7 @@ fn nearest_to<'a>(
     match wrong {
         Wrong::Fault(fault) => nearest_right(alloc, &right.files, fault, word),
         Wrong::NoModule => Ok(nearest_module(&right.modules, word)),
-        Wrong::Argument(..) => Ok(None),
+        Wrong::Path | Wrong::Target | Wrong::Argument(..) => Ok(None),
     }
 }
 
@@ -86,6 +93,7 @@ fn with_nearest(
         module: Vec::new(alloc),
         word: Vec::from_slice(alloc, word)?,
         nearest,
+        spot: None,
     })
 }
 
@@ -119,7 +127,8 @@ fn wrong_word<'a>(
 {
     match wrong {
         Wrong::Fault(fault) => fault_word(form, line, fault, inside),
-        Wrong::NoModule => path_in(form, line, inside),
+        Wrong::NoModule | Wrong::Path => path_in(form, line, inside),
+        Wrong::Target => word_at_fault(form, line, FaultKind::NoService, inside),
         Wrong::Argument(position, _) => argument_in(form, line, position, inside),
     }
 }
@@ -158,7 +167,8 @@ fn nearest_by(
         ArgumentProblem::OtherKind
         | ArgumentProblem::BadValue
         | ArgumentProblem::NoToken
-        | ArgumentProblem::Weak => Ok(None),
+        | ArgumentProblem::Weak
+        | ArgumentProblem::MissingFile(_) => Ok(None),
     }
 }
 
@@ -177,6 +187,7 @@ fn of_argument(
         module: Vec::from_slice(alloc, name_of_path(path))?,
         word: Vec::from_slice(alloc, word)?,
         nearest,
+        spot: None,
     })
 }
 
@@ -202,7 +213,7 @@ fn misspelled_argument(
     }
 }
 
-/// The word that is wrong in a line.
+/// The word of a line that a finding is about, without its spot.
 pub(crate) fn misspelled_in(
     alloc: Global,
     right: &RightNames<'_>,

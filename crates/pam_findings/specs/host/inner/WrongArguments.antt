@@ -1,11 +1,14 @@
 -- For private contracts and proofs alone: the wrong arguments of a rule, as they are looked for.
 use Rattle.std.specs.Prelude.{◌≡◌, ◌⊎◌, ◌-◌, ℕ, List, Option, Some, slice_get}
 use Rattle.std.specs.Option.{option_and_then}
-use Rattle.pam_arguments.specs.Verdicts.{Module}
-use Rattle.pam_arguments.specs.declared.lacks.Lack.{Lack}
+use Rattle.pam_facts.specs.arguments.Verdicts.{Module}
+use Rattle.pam_facts.specs.declared.arguments.lacks.Lack.{Lack}
 use Rattle.pam_conf.specs.Stack.{ModuleText}
 use Rattle.pam_conf.specs.declared.rule.Kind.{Kind}
-use Rattle.pam_findings.specs.host.Arguments.{known_of, lack_in, wrong_at}
+use Rattle.pam_facts.specs.Rows.{Row}
+use Rattle.pam_facts.specs.arguments.Calls.{known_of, lack_in}
+use Rattle.pam_findings.specs.host.Arguments.{wrong_at}
+use Rattle.pam_findings.specs.host.MissingFiles.{missing_by}
 use Rattle.pam_findings.specs.host.inner.Looked.{spot_at}
 use Rattle.pam_findings.specs.declared.host.problem.ArgumentProblem.{ArgumentProblem}
 use Rattle.pam_findings.specs.declared.host.problem.Problem.TheVariants as problems
@@ -18,9 +21,9 @@ pub record OfWrong (rule : ModuleText) (position : ℕ) (found : Option Argument
   pub at : spot ≡ spot_at rule (problems.Argument position wrong)
 
 -- that of some argument, where this is known of the module
-pub record OfKnown (known : Option Module) (kind : Kind) (rule : ModuleText) (spot : Spot) : Type 0 where
+pub record OfKnown (rows : List Row) (known : Option Module) (kind : Kind) (rule : ModuleText) (spot : Spot) : Type 0 where
   pub position : ℕ
-  pub of : OfWrong rule position (wrong_at known kind rule position) spot
+  pub of : OfWrong rule position (wrong_at rows known kind rule position) spot
 
 -- what is found of the argument at a position, where this is found of each word
 abbrev pub found_at : (List ℕ → Option ArgumentProblem) → ModuleText → ℕ → Option ArgumentProblem
@@ -41,5 +44,6 @@ pub record OfLack (found : Option Lack) (rule : ModuleText) (spot : Spot) : Type
   pub is : found ≡ Some lack
   pub at : spot ≡ spot_at rule (problems.BadArguments lack)
 
-abbrev pub OfArguments : Kind → ModuleText → Spot → Type 0
-OfArguments kind rule spot = OfKnown (known_of rule) kind rule spot ⊎ OfLack (lack_in kind rule) rule spot
+abbrev pub OfArguments : List Row → Option (List (List ℕ)) → Kind → ModuleText → Spot → Type 0
+OfArguments rows files kind rule spot =
+    (OfKnown rows (known_of rule) kind rule spot ⊎ OfLack (lack_in kind rule) rule spot) ⊎ OfFound (missing_by files kind rule) rule spot

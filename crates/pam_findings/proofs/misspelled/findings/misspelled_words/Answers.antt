@@ -17,6 +17,8 @@ loop-entry-preserved c =
     record {
       reading = c.in_ok-word.ensures.reading;
       same = ap (λ (f : Bor Folder). f.now) c.in_ok-word.ensures.same ∙ same;
+      at = c.in_ok-word.ensures.at;
+      still = ap (λ (f : Bor Folder). f.now) c.in_ok-word.ensures.still ∙ so_far.still;
       words =
           words-more (option_map misspelled_view) (misspelled_at files there outside) c.args.found.now c.loop-entry.entry-index _ c.loop-entry.words.items
           c.push.new.self.items c.in_ok-word.word c.loop-entry-test.true so_far.words c.in_ok-push.ensures.items (rw same at told);

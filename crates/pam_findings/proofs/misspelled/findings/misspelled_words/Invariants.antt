@@ -2,6 +2,7 @@ use Rattle.std.proofs.Common.{◌≡◌, map, take}
 use Rattle.std.specs.Option.{option_map}
 use Rattle.pam_findings.specs.misspelled.Findings.{misspelled_at}
 use Rattle.pam_findings.specs.misspelled.MisspelledView.{misspelled_view}
+use Rattle.pam_findings.specs.misspelled.inner.Cursors.{IsAt}
 use Rattle.pam_findings.specs.misspelled.inner.Reading.{IsReading}
 use Rattle.pam_findings.proofs.misspelled.findings.misspelled_words.Given as goal
 
@@ -10,5 +11,7 @@ abbrev pub invariant-loop-entry : goal.invariant-loop-entry
 invariant-loop-entry l = record {
   reading : IsReading l.reader;
   same : l.reader.files.now ≡ l.files;
+  at : IsAt l.cursor;
+  still : l.cursor.files.now ≡ l.files;
   words : map (option_map misspelled_view) l.words.items ≡ map (misspelled_at l.files (option_map (λ t. t.now) l.there) l.outside) (take l.entry-index l.found);
 }

@@ -28,7 +28,7 @@ returns-clause-adds c =
       named = c.named.result;
       home = c.copied.result;
       is_only_included = c.is_only_included.result;
-      is_included = c.is_target.result;
+      is_included = c.has.result;
       is_greeter = c.is_greeter.result;
     } in
     let looks = c.in_ok-spots.ensures.looks c.in_ok-survey.ensures in

@@ -1,4 +1,4 @@
-use Rattle.std.proofs.Common.{◌∙◌, sym}
+use Rattle.std.proofs.Common.{◌<◌, ◌∙◌, subst, sym}
 use Rattle.pam_findings.proofs.MisspelledProofs.Readers.{read_on, sought_next}
 use Rattle.pam_findings.proofs.misspelled.reader.Reader.seek.Goals as goal
 
@@ -13,5 +13,6 @@ loop-self-preserved c =
       same = next.same ∙ kept.same;
       file = next.file ∙ kept.file;
       sought = λ upto. rw (sym kept.same, sym kept.file)
-          (sought_next old new kept.reading _ c.if-not-branch.false next.next c.args.number c.loop-self-test.true upto);
+          (sought_next old new kept.reading _ c.if-not-branch.false next.next c.args.number
+          (subst (λ last. last < c.args.number) c.last_number.ensures c.loop-self-test.true) upto);
     }
