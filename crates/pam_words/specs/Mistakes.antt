@@ -10,7 +10,7 @@ use Rattle.pam_facts.specs.known.Answers.{name_of_path}
 use Rattle.pam_words.specs.Candidates.{given_by, has_slash, is_candidate, is_empty}
 use Rattle.pam_words.specs.Decisions.{code_named, comma_parts}
 use Rattle.pam_words.specs.Settings.{key_in}
-use Rattle.pam_words.specs.Values.{has, names_source, text_of, texts_of}
+use Rattle.pam_words.specs.Values.{has, is_on, text_of, texts_of}
 use Rattle.pam_words.specs.Words.{pamcheck_app}
 use Rattle.pam_words.specs.declared.mistake.Mistake.{Mistake}
 use Rattle.pam_words.specs.declared.mistake.Mistake.TheVariants as mistakes
@@ -19,13 +19,14 @@ use Rattle.pam_words.specs.declared.wanted.Usage.TheVariants as usage
 
 -- the word that is wrong, or what of the words cannot be
 pub data MistakeText : Type 0 where
-  no_source : MistakeText
   many_sources : MistakeText
   vendor_alone : MistakeText
   both_forms : MistakeText
   kind : Text → MistakeText
   code : Text → MistakeText
   drawing : Text → MistakeText
+  form : Text → MistakeText
+  beside_json : MistakeText
   level : Text → MistakeText
   answers : Text → MistakeText
   setting : Text → MistakeText
@@ -36,13 +37,14 @@ pub data MistakeText : Type 0 where
   no_moment : MistakeText
 
 abbrev pub mistake_view : Mistake → MistakeText
-mistake_view mistakes.NoSource = no_source
 mistake_view mistakes.ManySources = many_sources
 mistake_view mistakes.VendorAlone = vendor_alone
 mistake_view mistakes.BothForms = both_forms
 mistake_view (mistakes.Kind word) = kind word.now
 mistake_view (mistakes.Code word) = code word.now
 mistake_view (mistakes.Drawing word) = drawing word.now
+mistake_view (mistakes.Form word) = form word.now
+mistake_view mistakes.BesideJson = beside_json
 mistake_view (mistakes.Level word) = level word.now
 mistake_view (mistakes.Answers word) = answers word.now
 mistake_view (mistakes.Setting word) = setting word.now
@@ -58,13 +60,13 @@ tells command =
     bytes_eq command (codes "check") || bytes_eq command (codes "compare") || bytes_eq command (codes "policy")
     || bytes_eq command (codes "outcomes") || bytes_eq command (codes "graph") || bytes_eq command (codes "needs")
 
--- the options of `compare` are no names; the others name a source each, and `--vendor-dir` one beside `--dir`
+-- the options of `compare` are no names; the others name a source each, and `--vendor-dir` one beside `--dir`. Where no option names a
+-- source there is no mistake, since these commands then ask the running system
 abbrev pub source_mistake : Text → List Row → MistakeText
 source_mistake command rows =
     if bytes_eq command (codes "compare") then both_forms
     else if has (codes "vendor-dir") rows && not (has (codes "dir") rows) then vendor_alone
-    else if names_source rows then many_sources
-    else no_source
+    else many_sources
 
 -- the names in CODES: those after `but:`, if it begins so
 abbrev pub names_in : Text → List Text
@@ -101,8 +103,16 @@ abbrev pub candidate_mistake : List Row → Option MistakeText
 candidate_mistake rows =
     if has (codes "conf") rows then Some beside_conf else wrong_candidate (texts_of (codes "name") rows) (texts_of (codes "with") rows)
 
-abbrev pub drawing_mistake : Text → List Row → Option MistakeText
-drawing_mistake command rows = if bytes_eq command (codes "graph") then Some (drawing (text_of (codes "format") rows)) else None
+-- the value of `--format` of `check`, which `--json` takes the place of where both are given
+abbrev pub form_mistake : List Row → MistakeText
+form_mistake rows = if is_on (codes "json") rows then beside_json else form (text_of (codes "format") rows)
+
+-- the value of `--format`
+abbrev pub format_mistake : Text → List Row → Option MistakeText
+format_mistake command rows =
+    if bytes_eq command (codes "graph") then Some (drawing (text_of (codes "format") rows))
+    else if bytes_eq command (codes "check") then Some (form_mistake rows)
+    else None
 
 -- what is wrong with the values of `--set`
 abbrev pub mistake_of_settings : List Row → Usage → Option MistakeText
@@ -114,7 +124,7 @@ mistake_of_settings rows refusal = None
 abbrev pub mistake_for : Text → List Row → Usage → Option MistakeText
 mistake_for command rows usage.Source = Some (source_mistake command rows)
 mistake_for command rows usage.KindName = Some (kind (text_of (codes "kind") rows))
-mistake_for command rows usage.FormatName = drawing_mistake command rows
+mistake_for command rows usage.FormatName = format_mistake command rows
 mistake_for command rows usage.LevelName = Some (level (text_of (codes "fail-on") rows))
 mistake_for command rows usage.AnswersName = Some (answers (text_of (codes "answers") rows))
 mistake_for command rows usage.Login = Some no_user

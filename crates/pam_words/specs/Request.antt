@@ -32,6 +32,13 @@ stack_of rows =
     or_refuse (kind_of_rows rows) kind_name (λ kind.
     Ok (from, kind)))
 
+-- the same, where the source is the running system if no option names one
+abbrev pub stack_or_root : List Row → Result (SourceText × Kind) Refusal
+stack_or_root rows =
+    or_refuse (source_or_root rows) source (λ from.
+    or_refuse (kind_of_rows rows) kind_name (λ kind.
+    Ok (from, kind)))
+
 -- `check [SERVICE]...`
 abbrev pub check_task : List Row → Result TaskText Refusal
 check_task rows =
@@ -129,14 +136,14 @@ paths_task rows =
 -- `outcomes SERVICE KIND`
 abbrev pub outcomes_task : List Row → Result TaskText Refusal
 outcomes_task rows =
-    stack_of rows >>= λ stack.
+    stack_or_root rows >>= λ stack.
     possible_knowledge_of rows >>= λ knowledge.
     Ok (outcomes (record { source = stack.0; kind = stack.1; knowledge = knowledge }))
 
 -- `graph SERVICE KIND`
 abbrev pub graph_task : List Row → Result TaskText Refusal
 graph_task rows =
-    stack_of rows >>= λ stack.
+    stack_or_root rows >>= λ stack.
     or_refuse (format_of rows) format_name (λ format.
     possible_knowledge_of rows >>= λ knowledge.
     Ok (graph (record { source = stack.0; kind = stack.1; format = format; knowledge = knowledge })))
@@ -176,10 +183,9 @@ policy_task rows =
 -- `needs SERVICE KIND`, where the same is known of modules
 abbrev pub needs_task : List Row → Result TaskText Refusal
 needs_task rows =
-    or_refuse (source_or_root rows) source (λ from.
-    or_refuse (kind_of_rows rows) kind_name (λ kind.
+    stack_or_root rows >>= λ stack.
     knowledge_of (possible (first_of (codes "facts") rows)) rows >>= λ knowledge.
-    Ok (needs (record { source = from; kind = kind; knowledge = knowledge }))))
+    Ok (needs (record { source = stack.0; kind = stack.1; knowledge = knowledge }))
 
 -- `explain [NUMBER]`
 abbrev pub explain_task : List Row → Result TaskText Refusal

@@ -55,7 +55,7 @@ source_of rows =
 abbrev pub names_source : List Row → Bool
 names_source rows = has (codes "dir") rows || has (codes "vendor-dir") rows || has (codes "conf") rows || has (codes "root") rows
 
--- the source of `check` and of `policy`, which is the running system if no option names one
+-- the source of a command that asks the running system if no option names one
 abbrev pub source_or_root : List Row → Option SourceText
 source_or_root rows = if names_source rows then source_of rows else Some (root (codes "/"))
 

@@ -3,8 +3,6 @@
 /// What of the words is wrong, so that a refusal can say it.
 #[derive(Clone, Copy)]
 pub enum Mistake<'a> {
-    /// No option names a source.
-    NoSource,
     /// More than one option names a source.
     ManySources,
     /// `--vendor-dir` is given without `--dir`.
@@ -17,6 +15,10 @@ pub enum Mistake<'a> {
     Code(&'a [u8]),
     /// A value of `--format` that is no format of a drawing.
     Drawing(&'a str),
+    /// A value of `--format` of `check` that is no form.
+    Form(&'a str),
+    /// Another form than JSON is named beside `--json`.
+    BesideJson,
     /// A value of `--fail-on` that is no level.
     Level(&'a str),
     /// A value of `--answers` that is none of answers.

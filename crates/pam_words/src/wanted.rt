@@ -295,7 +295,7 @@ pub enum Usage {
     /// U1 too: a word is not UTF-8. `request` never returns it; its caller does, while collecting the words.
     #[error("a word is not UTF-8")]
     NotUtf8,
-    /// U2: not exactly one source is given, or `--vendor-dir` without `--dir`. `check`, `policy`, `needs` and `compare` need none,
+    /// U2: not exactly one source is given, or `--vendor-dir` without `--dir`. Only `show`, `decide` and `paths` need one,
     /// and `compare` takes one form of its sources.
     #[error("not exactly one of --dir, --conf and --root, or --vendor-dir without --dir")]
     Source,

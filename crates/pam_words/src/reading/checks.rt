@@ -2,17 +2,18 @@
 
 ghost use Rattle.std.specs.Prelude.{◌≡◌, IfOk, option_map};
 ghost use Rattle.clap.specs.Words.{found_of, rows_of};
-ghost use Rattle.pam_words.specs.Request.{check_task};
+ghost use Rattle.pam_words.specs.Request.{check_task, stack_or_root as stack_or_root_of};
 ghost use Rattle.pam_words.specs.Values.{level_named as level_of_name, level_of, source_or_root as source_or_root_of};
 ghost use Rattle.pam_words.specs.Values.{names_source as has_source};
-ghost use Rattle.pam_words.specs.Wanted.{source_view};
+ghost use Rattle.pam_words.specs.Wanted.{Gives, source_view};
 ghost use Rattle.pam_words.specs.inner.Wanted.{GivesTask, IsGiven};
 
 use crate::reading::candidates::services;
 use crate::reading::knowledge::{has, names, tables};
-use crate::reading::{source, value};
+use crate::reading::{kind, source, value};
 use crate::wanted::{CheckFiles, ConfSource, LevelName, Task, Usage};
 use clap::ArgMatches;
+use pam_conf::Kind;
 use std::alloc::{AllocError, Global};
 
 /// Whether an option of a source is given.
@@ -34,6 +35,19 @@ pub(crate) fn source_or_root<'a>(matches: &ArgMatches<'a>) -> Option<ConfSource<
     } else {
         Some(ConfSource::Root("/"))
     }
+}
+
+/// Reads the source, which is the running system if no option names one, and the kind.
+pub(crate) fn stack_or_root<'a>(matches: &ArgMatches<'a>) -> Result<(ConfSource<'a>, Kind), Usage>
+    ensures { Gives (λ p. (source_view p.0, p.1)) (stack_or_root_of (rows_of (found_of matches.now))) result }
+{
+    let Some(source) = source_or_root(matches) else {
+        return Err(Usage::Source);
+    };
+    let Some(kind) = kind(matches) else {
+        return Err(Usage::KindName);
+    };
+    Ok((source, kind))
 }
 
 fn level_named(name: &str) -> Option<LevelName>

@@ -6,8 +6,9 @@ ghost use Rattle.pam_words.specs.Request.{graph_task};
 ghost use Rattle.pam_words.specs.Values.{format_named as format_of_name, format_of};
 ghost use Rattle.pam_words.specs.inner.Wanted.{GivesTask};
 
+use crate::reading::checks::stack_or_root;
 use crate::reading::knowledge::possible_knowledge;
-use crate::reading::{stack, value};
+use crate::reading::value;
 use crate::wanted::{GraphFormat, Task, Usage};
 use clap::ArgMatches;
 use std::alloc::Global;
@@ -39,7 +40,7 @@ fn format(matches: &ArgMatches<'_>) -> Option<GraphFormat>
 pub(crate) fn graph<'a>(alloc: Global, matches: &ArgMatches<'a>) -> Result<Task<'a>, Usage>
     ensures { GivesTask (graph_task (rows_of (found_of matches.now))) result }
 {
-    let (source, kind) = stack(matches)?;
+    let (source, kind) = stack_or_root(matches)?;
     let Some(format) = format(matches) else {
         return Err(Usage::FormatName);
     };

@@ -10,8 +10,9 @@ ghost use Rattle.pam_words.specs.Values.{answers_named as answers_of_name, answe
 ghost use Rattle.pam_words.specs.Wanted.{Gives, answers_view, knowledge_view, moment_view};
 ghost use Rattle.pam_words.specs.inner.Wanted.{AreTableNames, GivesTask};
 
+use crate::reading::checks::stack_or_root;
 use crate::reading::settings::settings;
-use crate::reading::{login, moment, stack, value, values};
+use crate::reading::{login, moment, value, values};
 use crate::wanted::{Answers, KnowledgeSource, Moment, TableNames, Task, Usage};
 use clap::ArgMatches;
 use std::alloc::{AllocError, Global};
@@ -149,7 +150,7 @@ pub(crate) fn possible_knowledge<'a>(
 pub(crate) fn outcomes<'a>(alloc: Global, matches: &ArgMatches<'a>) -> Result<Task<'a>, Usage>
     ensures { GivesTask (outcomes_task (rows_of (found_of matches.now))) result }
 {
-    let (source, kind) = stack(matches)?;
+    let (source, kind) = stack_or_root(matches)?;
     let knowledge = possible_knowledge(alloc, matches)?;
     Ok(Task::Outcomes {
         source,

@@ -10,10 +10,9 @@ ghost use Rattle.pam_words.specs.Values.{texts_of};
 
 use crate::mistake::Mistake;
 use crate::reading::candidates::{cut, has_slash, is_candidate};
-use crate::reading::checks::names_source;
 use crate::reading::knowledge::has;
 use crate::reading::settings::key_and_codes;
-use crate::reading::{command_name, refused, text, values};
+use crate::reading::{command_name, is_on, refused, text, values};
 use crate::wanted::Usage;
 use crate::words::command_for;
 use clap::ArgMatches;
@@ -41,10 +40,8 @@ fn source_mistake<'a>(command: &str, matches: &ArgMatches<'_>) -> Mistake<'a>
         Mistake::BothForms
     } else if has(matches, "vendor-dir") && !has(matches, "dir") {
         Mistake::VendorAlone
-    } else if names_source(matches) {
-        Mistake::ManySources
     } else {
-        Mistake::NoSource
+        Mistake::ManySources
     }
 }
 
@@ -221,11 +218,23 @@ fn settings_mistake<'a>(usage: &Usage, matches: &ArgMatches<'a>) -> Option<Mista
     }
 }
 
-fn drawing_mistake<'a>(command: &str, matches: &ArgMatches<'a>) -> Option<Mistake<'a>>
-    ensures { option_map mistake_view result ≡ spec.drawing_mistake command.now (rows_of (found_of matches.now)) }
+fn form_mistake<'a>(matches: &ArgMatches<'a>) -> Mistake<'a>
+    ensures { mistake_view result ≡ spec.form_mistake (rows_of (found_of matches.now)) }
+{
+    if is_on(matches, "json") {
+        Mistake::BesideJson
+    } else {
+        Mistake::Form(text(matches, "format"))
+    }
+}
+
+fn format_mistake<'a>(command: &str, matches: &ArgMatches<'a>) -> Option<Mistake<'a>>
+    ensures { option_map mistake_view result ≡ spec.format_mistake command.now (rows_of (found_of matches.now)) }
 {
     if command == "graph" {
         Some(Mistake::Drawing(text(matches, "format")))
+    } else if command == "check" {
+        Some(form_mistake(matches))
     } else {
         None
     }
@@ -238,7 +247,7 @@ fn mistake_for<'a>(usage: &Usage, command: &str, matches: &ArgMatches<'a>) -> Op
     match usage {
         Usage::Source => Some(source_mistake(command, matches)),
         Usage::KindName => Some(Mistake::Kind(text(matches, "kind"))),
-        Usage::FormatName => drawing_mistake(command, matches),
+        Usage::FormatName => format_mistake(command, matches),
         Usage::LevelName => Some(Mistake::Level(text(matches, "fail-on"))),
         Usage::AnswersName => Some(Mistake::Answers(text(matches, "answers"))),
         Usage::Login => Some(Mistake::NoUser),

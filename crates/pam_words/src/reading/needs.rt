@@ -4,9 +4,9 @@ ghost use Rattle.clap.specs.Words.{found_of, rows_of};
 ghost use Rattle.pam_words.specs.Request.{needs_task};
 ghost use Rattle.pam_words.specs.inner.Wanted.{GivesTask};
 
-use crate::reading::checks::source_or_root;
+use crate::reading::checks::stack_or_root;
 use crate::reading::knowledge::knowledge;
-use crate::reading::{kind, value};
+use crate::reading::value;
 use crate::wanted::{Answers, Task, Usage};
 use clap::ArgMatches;
 use std::alloc::Global;
@@ -14,12 +14,7 @@ use std::alloc::Global;
 pub(crate) fn needs<'a>(alloc: Global, matches: &ArgMatches<'a>) -> Result<Task<'a>, Usage>
     ensures { GivesTask (needs_task (rows_of (found_of matches.now))) result }
 {
-    let Some(source) = source_or_root(matches) else {
-        return Err(Usage::Source);
-    };
-    let Some(kind) = kind(matches) else {
-        return Err(Usage::KindName);
-    };
+    let (source, kind) = stack_or_root(matches)?;
     let facts = value(matches, "facts");
     let knowledge = knowledge(alloc, matches, Answers::Possible { facts })?;
     Ok(Task::Needs {
