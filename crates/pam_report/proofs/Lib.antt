@@ -6,6 +6,7 @@ pub mod CountingFindings
 pub mod Drawings
 pub mod GoalPages
 pub mod Kept
+pub mod IdleRows
 pub mod KnownStacks
 pub mod NeedsAnswers
 pub mod OutcomeLists
@@ -19,5 +20,6 @@ pub mod ShownSteps
 pub mod SilentChecks
 pub mod StackFaults
 pub mod TraceSteps
+pub mod UnusedLines
 pub mod WalkPages
 pub mod Wanting

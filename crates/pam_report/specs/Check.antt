@@ -26,23 +26,26 @@ use Rattle.pam_words.specs.declared.wanted.CheckFiles.{CheckFiles}
 use Rattle.pam_words.specs.declared.wanted.LevelName.{LevelName}
 use Rattle.pam_report.specs.Accepting.{all_keys, lines_without, not_accepted, table_findings, tables_not_accepted}
 use Rattle.pam_report.specs.Fault.{accept_fault, facts_fault}
-use Rattle.pam_report.specs.Inputs.{accept_given, facts_given, host_tables_given, outside_given, paths_given, table_paths_given, there_given}
+use Rattle.pam_report.specs.Inputs.{accept_given, facts_given, host_tables_given, named_files_given, outside_given, paths_given, table_paths_given, there_given}
 use Rattle.pam_report.specs.Inputs.{vendor_start_given}
 use Rattle.pam_report.specs.Reply.{Answer, Check, CheckValue}
+use Rattle.pam_report.specs.Unused.{idle_rows, unused_lines}
 use Rattle.pam_report.specs.declared.inputs.Inputs.{Inputs}
 
 -- what is checked: the services that are named, or all, and the files of the configuration
 module _ (services : List (List ℕ)) (fail_on : LevelName) (named : CheckFiles) (files : Folder) (inputs : Inputs) where
-  -- the findings by these facts that no line accepts, also those of tables, and the lines that accept none
+  -- the findings by these facts that no line accepts, also those of tables, the lines that accept none, and the rows of the facts file
+  -- that say nothing
   pub record IsCheckOf (facts : List Row) (lines : List Accepted) (value : CheckValue) : Type 0 where
     pub same_form : value.form ≡ files.form
     pub same_paths : value.paths ≡ paths_given inputs
     pub are_services : value.services ≡ checked_services files services
     pub same_level : value.fail_on ≡ fail_on
     pub same_accept : value.accept ≡ unwrap_or (option_copied named.accept) []
+    pub same_facts : value.facts ≡ unwrap_or (option_copied named.facts) []
     pub plain : BTreeMap Place Finding
     pub ways : List (Option WayIn)
-    pub report : IsReport files (vendor_start_given inputs) services facts (there_given inputs) plain ways
+    pub report : IsReport files (vendor_start_given inputs) services facts (there_given inputs) (named_files_given inputs) plain ways
     -- with S27, and without the ways in that tell of a file which leads out of its folder
     pub all : BTreeMap Place Finding
     pub links : WithLinks (outside_given inputs) plain all
@@ -53,11 +56,13 @@ module _ (services : List (List ℕ)) (fail_on : LevelName) (named : CheckFiles)
     pub not_accepted : value.found ≡ not_accepted lines files value.services all.entries
     pub misspelled : value.misspelled ≡ map (misspelled_at files (there_given inputs) (outside_given inputs)) value.found
     pub tables_not_accepted : value.tables ≡ tables_not_accepted lines value.table_paths (table_findings all_tables)
-    pub unused : value.unused ≡ lines_without (all_keys files value.services all.entries value.table_paths (table_findings all_tables)) lines
+    pub unused : value.unused
+        ≡ unused_lines (lines_without (all_keys files value.services all.entries value.table_paths (table_findings all_tables)) lines)
+        (idle_rows files (there_given inputs) (facts_given inputs))
     -- where no line accepts a finding, and all that are listed are notes, each stack that is checked is sound
     pub silence : value.found ≡ all.entries → All (λ entry. level_of entry.1.problem ≡ Note) value.found →
         (service : ℕ) (kind : Kind) → service < length value.services →
-        IsSoundStack (host_of files (vendor_start_given inputs) services facts (there_given inputs)) service kind
+        IsSoundStack (host_of files (vendor_start_given inputs) services facts (there_given inputs) (named_files_given inputs)) service kind
 
   -- a fault of the facts file comes before one of the accept file
   abbrev pub IsChecked : Result (List Row) FactsError → Result (List Accepted) AcceptError → Answer → Type 0

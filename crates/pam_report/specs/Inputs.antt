@@ -60,6 +60,11 @@ there_given (inputs.Host files paths given) = given.there
 there_given (inputs.Paths files given) = given.there
 there_given _ = None
 
+-- the arguments that name a file which is there, if that is known
+abbrev pub named_files_given : Inputs → Option (List (List ℕ))
+named_files_given (inputs.Host files paths given) = given.named_files
+named_files_given _ = None
+
 -- the two configurations of a comparison, with their modules
 abbrev pub old_given : Inputs → Option SideInputs
 old_given (inputs.Sides old new facts returns) = Some old

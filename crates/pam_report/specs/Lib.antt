@@ -10,6 +10,7 @@ pub mod FaultTable
 pub mod Finds
 pub mod Graph
 pub mod Inputs
+pub mod Keys
 pub mod KnownStack
 pub mod Laws
 pub mod Memory
@@ -32,4 +33,5 @@ pub mod Show
 pub mod TablePaths
 pub mod TooLarge
 pub mod Unread
+pub mod Unused
 pub mod inner

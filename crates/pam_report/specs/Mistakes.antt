@@ -11,8 +11,8 @@ use Rattle.pam_report.specs.FaultTable.{usage_row}
 use Rattle.pam_report.specs.declared.fault.naming.Meant.{Meant}
 use Rattle.pam_report.specs.declared.fault.naming.Meant.TheVariants as meant
 use Rattle.pam_spelling.specs.Nearest.{nearest}
-use Rattle.pam_words.specs.Mistakes.{MistakeText, answers, beside_conf, both_forms, candidate, code, drawing, folder, kind, level, many_sources}
-use Rattle.pam_words.specs.Mistakes.{no_moment, no_source, no_user, setting, vendor_alone}
+use Rattle.pam_words.specs.Mistakes.{MistakeText, answers, beside_conf, beside_json, both_forms, candidate, code, drawing, folder, form, kind, level}
+use Rattle.pam_words.specs.Mistakes.{many_sources, no_moment, no_user, setting, vendor_alone}
 use Rattle.pam_words.specs.declared.wanted.Usage.{Usage}
 
 -- ---- a word that is wrong, by what is meant
@@ -22,30 +22,37 @@ unfoldable pub said_of : Meant → List ℕ
 said_of meant.Kind = codes "is no kind"
 said_of meant.Code = codes "is no return code"
 said_of meant.Drawing = codes "is no format"
+said_of meant.Form = codes "is no format"
 said_of meant.Level = codes "is no level"
 said_of meant.Answers = codes "is no value of --answers"
 said_of meant.Setting = codes "is not KEY=CODES"
 said_of meant.Candidate = codes "is not NAME=FILE, or its NAME has a slash"
 said_of meant.File = codes "is a folder"
 said_of meant.Number = codes "is the number of no fault or finding"
+said_of meant.Key = codes "of --set names no module"
+said_of meant.NoCode = codes "of --set has no code"
 
 -- what to write where no right word is near
 unfoldable pub mending_of : Meant → List ℕ
 mending_of meant.Kind = codes "write auth, account, password or session"
 mending_of meant.Code = codes "write one as success"
 mending_of meant.Drawing = codes "write dot, mermaid or svg"
+mending_of meant.Form = codes "write short, json or sarif"
 mending_of meant.Level = codes "write error, warning or note"
 mending_of meant.Answers = codes "write any or possible"
 mending_of meant.Setting = codes "write one as pam_unix.so=success"
 mending_of meant.Candidate = codes "write one as sshd=candidate"
 mending_of meant.File = codes "write the file of a service, or --dir before it"
 mending_of meant.Number = codes "write one as S2, or none to list all"
+mending_of meant.Key = codes "write the name of one as pam_unix.so, with its ending"
+mending_of meant.NoCode = codes "write one as success"
 
 -- the words that are right, where they are few
 unfoldable pub right_words : Meant → List (List ℕ)
 right_words meant.Kind = codes "auth" ∷ codes "account" ∷ codes "password" ∷ codes "session" ∷ []
 right_words meant.Code = code_names
 right_words meant.Drawing = codes "dot" ∷ codes "mermaid" ∷ codes "svg" ∷ []
+right_words meant.Form = codes "short" ∷ codes "json" ∷ codes "sarif" ∷ []
 right_words meant.Level = codes "error" ∷ codes "warning" ∷ codes "note" ∷ []
 right_words meant.Answers = codes "any" ∷ codes "possible" ∷ []
 right_words meant = []
@@ -82,11 +89,11 @@ word_text meant word = named_text meant (nearest (right_words meant) (map to_asc
 
 -- where no single word is wrong
 unfoldable pub plain_text : MistakeText → List ℕ
-plain_text no_source = codes ": no source is named; write --dir DIR, --conf FILE or --root DIR"
 plain_text many_sources = codes ": more than one source is named; write one of --dir DIR, --conf FILE and --root DIR"
 plain_text vendor_alone = codes ": --vendor-dir is given without --dir; write --dir DIR too, and neither --conf nor --root"
 plain_text both_forms = codes ": both --conf and --root are given; write one of them, or neither to compare folders"
 plain_text beside_conf = codes ": a file of a folder is given beside --conf; write the rules that it has into the FILE of --conf"
+plain_text beside_json = codes ": another form is named beside --json; write one of them"
 plain_text no_user = codes ": a table is given without a user; write --user USER"
 plain_text no_moment = codes ": not one moment is given; write --at as 2024-05-06T10:00, or --at-unix SECONDS, alone or with --zone RULE"
 plain_text mistake = []
@@ -96,6 +103,7 @@ abbrev pub mistake_text : MistakeText → List ℕ
 mistake_text (kind word) = word_text meant.Kind word
 mistake_text (code word) = word_text meant.Code word
 mistake_text (drawing word) = word_text meant.Drawing word
+mistake_text (form word) = word_text meant.Form word
 mistake_text (level word) = word_text meant.Level word
 mistake_text (answers word) = word_text meant.Answers word
 mistake_text (setting word) = named_text meant.Setting None word

@@ -22,6 +22,7 @@ argument_name arguments.OtherKind = codes "S17 ArgumentOfOtherKind"
 argument_name arguments.BadValue = codes "S18 BadValue"
 argument_name arguments.NoToken = codes "S20 NoToken"
 argument_name arguments.Weak = codes "S23 WeakHash"
+argument_name (arguments.MissingFile absence) = codes "S24 MissingFile"
 
 -- the number and the name
 unfoldable pub problem_name : Problem → List ℕ

@@ -1,5 +1,6 @@
 -- The line of a fault of a request, which says what the request names.
-use Rattle.std.specs.Prelude.{ℕ, ◌==◌, ◌-◌, not, if◌then◌else◌, List, [], ◌∷◌, ◌++◌, codes, filter, find, map, Option, Some, None, slice_get, unwrap_or}
+use Rattle.std.specs.Prelude.{ℕ, ◌==◌, ◌-◌, ◌&&◌, Bool, true, false, length, not, if◌then◌else◌, List, []}
+use Rattle.std.specs.Prelude.{◌∷◌, ◌++◌, codes, filter, find, map, Option, Some, None, slice_get, unwrap_or}
 use Rattle.std.specs.Char.{to_ascii_lowercase}
 use Rattle.std.specs.List.{concat}
 use Rattle.std.specs.Option.{option_copied, option_map_or, option_or}
@@ -16,8 +17,9 @@ use Rattle.pam_words.specs.declared.wanted.Task.TheVariants.{Check, Compare, Exp
 use Rattle.pam_report.specs.Candidates.{CandidateText, first_unused}
 use Rattle.pam_report.specs.Compare.{side_of}
 use Rattle.pam_report.specs.Fault.{fault_line, line_of, line_place, policy_place}
-use Rattle.pam_report.specs.FaultTable.{candidate_row, number_row, policy_row, service_row}
+use Rattle.pam_report.specs.FaultTable.{candidate_row, key_row, number_row, policy_row, service_row}
 use Rattle.pam_report.specs.Inputs.{files_given, new_given, no_files, old_given}
+use Rattle.pam_report.specs.Keys.{key_said, wrong_setting}
 use Rattle.pam_report.specs.Mistakes.{hint, number_text}
 use Rattle.pam_report.specs.Services.{has_service}
 use Rattle.pam_report.specs.declared.fault.policies.PolicyFileError.{PolicyFileError}
@@ -42,6 +44,17 @@ place_in (Conf file) form = file.now
 place_in (Root root) FolderForm = codes "etc/pam.d"
 place_in (Root root) Single = codes "etc/pam.conf"
 
+-- a source as the command line names it
+abbrev pub side_named : ConfSource → List ℕ
+side_named (Dir folder) = folder.now
+side_named (Over folder vendor) = folder.now
+side_named (Conf file) = file.now
+side_named (Root root) = root.now
+
+abbrev pub is_single : Form → Bool
+is_single FolderForm = false
+is_single Single = true
+
 abbrev pub what_is_missing : Form → List ℕ
 what_is_missing FolderForm = codes ": there is no file \""
 what_is_missing Single = codes ": there is no rule of \""
@@ -50,20 +63,28 @@ what_is_missing Single = codes ": there is no rule of \""
 abbrev pub missing_text : Folder → List ℕ → List ℕ → List ℕ
 missing_text folder place name = concat (what_is_missing folder.form ∷ name ∷ codes "\" in " ∷ place ∷ hint (nearest_in folder name) ∷ [])
 
+-- a root that has neither of the two folders, nor the one file
+abbrev pub lacks_configuration : ConfSource → Folder → Bool
+lacks_configuration (Root root) folder = is_single folder.form && (length folder.entries == 0)
+lacks_configuration source folder = false
+
+-- what is said of it
+abbrev pub no_configuration_text : List ℕ → List ℕ
+no_configuration_text root =
+    concat (codes ": there is none of etc/pam.d, usr/lib/pam.d and etc/pam.conf below " ∷ root ∷ codes "; write the root folder of a system" ∷ [])
+
+-- what is said of a name that is no service of a source
+abbrev pub missing_in : ConfSource → Folder → List ℕ → List ℕ
+missing_in source folder name =
+    if lacks_configuration source folder then no_configuration_text (side_named source) else missing_text folder (place_in source folder.form) name
+
 -- the first of these that is no service
 abbrev pub first_missing : Folder → List (List ℕ) → Option (List ℕ)
 first_missing folder names = find (λ name. not (has_service folder name)) names
 
 -- what is said of it
 abbrev pub missing_among : Folder → ConfSource → List (List ℕ) → List ℕ
-missing_among folder source names = option_map_or (missing_text folder (place_in source folder.form)) (first_missing folder names) []
-
--- a side as the command line names it
-abbrev pub side_named : ConfSource → List ℕ
-side_named (Dir folder) = folder.now
-side_named (Over folder vendor) = folder.now
-side_named (Conf file) = file.now
-side_named (Root root) = root.now
+missing_among folder source names = option_map_or (missing_in source folder) (first_missing folder names) []
 
 -- the nearest name of the new configuration, or else of the old one
 abbrev pub hint_of_sides : Folder → Folder → List ℕ → List ℕ
@@ -81,9 +102,9 @@ neither_text old_files new_files old new name = neither_with old new name (hint_
 -- what is said of a name that is no service
 abbrev pub unknown_text : List ℕ → Task → Folder → Inputs → List ℕ
 unknown_text service (Check source services fail_on named) files inputs = missing_among files source services
-unknown_text service (Outcomes source kind knowledge) files inputs = missing_text files (place_in source files.form) service
-unknown_text service (Graph source kind format knowledge) files inputs = missing_text files (place_in source files.form) service
-unknown_text service (Needs source kind knowledge) files inputs = missing_text files (place_in source files.form) service
+unknown_text service (Outcomes source kind knowledge) files inputs = missing_in source files service
+unknown_text service (Graph source kind format knowledge) files inputs = missing_in source files service
+unknown_text service (Needs source kind knowledge) files inputs = missing_in source files service
 unknown_text service (Compare old new named kind given) files inputs =
     option_map_or (neither_text (side_of (old_given inputs)).folder (side_of (new_given inputs)).folder (side_named old) (side_named new)) (option_copied named) []
 unknown_text service task files inputs = []
@@ -134,13 +155,15 @@ abbrev pub number_said : Task → List ℕ
 number_said (Explain number) = option_map_or number_text (option_copied number) []
 number_said task = []
 
--- THE LINE of a fault of a request: what U18 says of the name, U19 of the candidate, and U14 of the number, that of a policy with its name,
--- and of others the line of the fault
+-- THE LINE of a fault of a request: what U18 says of the name, U19 of the candidate, U14 of the number, and U10 of the key, that of a
+-- policy with its name, and of others the line of the fault
 abbrev pub refusal_line : List ℕ → List CandidateText → Task → Inputs → Fault → List ℕ
 refusal_line service candidates task inputs faults.NoSuchService =
     line_of service_row (unknown_text service task (unwrap_or (files_given inputs) no_files) inputs)
 refusal_line service candidates task inputs faults.UnusedCandidate =
     line_of candidate_row (unused_of candidates task (unwrap_or (files_given inputs) no_files))
 refusal_line service candidates task inputs faults.NoSuchNumber = line_of number_row (number_said task)
+refusal_line service candidates task inputs faults.NoSuchKey =
+    line_of key_row (key_said (wrong_setting service task (unwrap_or (files_given inputs) no_files) inputs))
 refusal_line service candidates task inputs (faults.Policy e) = line_of (policy_row e.error.fault) (place_of_policy task e)
 refusal_line service candidates task inputs fault = fault_line (unwrap_or (files_given inputs) no_files) fault

@@ -1,6 +1,6 @@
 -- A reply: the value that answers a request.
 use Rattle.std.specs.List.{list_any}
-use Rattle.std.specs.Prelude.{ℕ, nat_lt, List, [], ◌∷◌, Option, Result, Bool, true, false, not, ◌==◌, ◌&&◌, ◌||◌, if◌then◌else◌}
+use Rattle.std.specs.Prelude.{ℕ, nat_lt, List, Option, Result, Bool, true, false, ◌==◌, ◌||◌, if◌then◌else◌}
 use Rattle.pam_changes.specs.Counts.{counts_of}
 use Rattle.pam_changes.specs.declared.changes.HostChanges.{HostChanges}
 use Rattle.pam_changes.specs.declared.counts.Counts.{Counts}
@@ -38,6 +38,7 @@ use Rattle.pam_report.specs.Decide.{AskedModule}
 use Rattle.pam_report.specs.PolicyLevels.{policy_level}
 use Rattle.pam_report.specs.Released.{ReleasedValue}
 use Rattle.pam_report.specs.TablePaths.{TablePathsText, level_of_table_problem}
+use Rattle.pam_report.specs.Unused.{UnusedText, level_of_unused}
 use Rattle.pam_report.specs.declared.fault.Fault.{Fault}
 use Rattle.pam_report.specs.declared.report.policy.JudgedPolicy.{JudgedPolicy}
 use Rattle.pam_report.specs.declared.report.Status.{Status}
@@ -94,8 +95,9 @@ pub record PageValue : Type 0 where
   pub part : PagePart
 
 -- the findings of a host and the problems of its tables that are not accepted: the path of its configuration and of each file, and
--- of each table, the services that were checked, the first way in of each, the name of the accept file and its lines that accept
--- nothing, and the least level that makes the status a refusal. At the position of each finding is the word that is wrong, if any
+-- of each table, the services that were checked, the first way in of each, the names of the accept file and the facts file and their
+-- lines that say nothing, and the least level that makes the status a refusal. At the position of each finding is the word that is wrong,
+-- if any
 pub record CheckValue : Type 0 where
   pub form : Form
   pub paths : List (List ℕ)
@@ -106,7 +108,8 @@ pub record CheckValue : Type 0 where
   pub table_paths : TablePathsText
   pub tables : List TableFinding
   pub accept : List ℕ
-  pub unused : List ℕ
+  pub facts : List ℕ
+  pub unused : List UnusedText
   pub fail_on : LevelName
 
 -- what changes from one configuration to another. One that is not given has no files
@@ -182,15 +185,13 @@ has_counting fail_on found = list_any (λ entry. counts fail_on (level_of entry.
 abbrev pub has_counting_table : LevelName → List TableFinding → Bool
 has_counting_table fail_on tables = list_any (λ finding. counts fail_on (level_of_table_problem finding.problem)) tables
 
-abbrev pub is_empty : {A : Type 0} → List A → Bool
-is_empty [] = true
-is_empty (x ∷ xs) = false
+-- some line that says nothing counts
+abbrev pub has_counting_line : LevelName → List UnusedText → Bool
+has_counting_line fail_on unused = list_any (λ line. counts fail_on (level_of_unused line)) unused
 
--- a line of the accept file that accepts nothing counts as a warning does
 abbrev pub check_status : CheckValue → Status
 check_status value =
-    if has_counting value.fail_on value.found
-    || (has_counting_table value.fail_on value.tables || (counts value.fail_on levels.Warning && not (is_empty value.unused)))
+    if has_counting value.fail_on value.found || (has_counting_table value.fail_on value.tables || has_counting_line value.fail_on value.unused)
     then Refusal else Success
 
 -- a stack that is refused comes before a decision that changes, or of which that is not known

@@ -13,6 +13,7 @@ use Rattle.pam_released.specs.Readings.{numbered_view}
 use Rattle.pam_report.specs.Released.{ReleasedValue}
 use Rattle.pam_report.specs.Reply as spec
 use Rattle.pam_report.specs.TablePaths.{table_paths_view}
+use Rattle.pam_report.specs.Unused.{unused_view}
 use Rattle.pam_report.specs.declared.report.check.CheckReply.{CheckReply}
 use Rattle.pam_report.specs.declared.report.compare.CompareReply.{CompareReply}
 use Rattle.pam_report.specs.declared.report.graph.GraphReply.{GraphReply}
@@ -82,7 +83,8 @@ check_view c = record {
   table_paths = table_paths_view c.table_paths;
   tables = c.tables.items;
   accept = c.accept.now;
-  unused = c.unused.items;
+  facts = c.facts.now;
+  unused = map unused_view c.unused.items;
   fail_on = c.fail_on;
 }
 

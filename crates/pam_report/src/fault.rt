@@ -7,6 +7,8 @@ ghost use Rattle.pam_report.specs.Fault.{IsNumbered};
 ghost use Rattle.pam_report.specs.FaultTable.{conf_row as conf_fault_row, table_row as table_fault_row, time_row as time_fault_row};
 ghost use Rattle.pam_report.specs.inner.FaultViews.{row_view};
 
+mod keys;
+mod missing;
 mod mistakes;
 mod naming;
 mod place;

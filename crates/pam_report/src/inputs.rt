@@ -91,6 +91,8 @@ pub struct CheckInputs {
     pub outside: Vec<bool>,
     /// The paths at which a module is there, as rules write them; `None` if that is not known.
     pub there: Option<NameList>,
+    /// The arguments that name a file which is there, as rules write them; `None` if that is not known.
+    pub named_files: Option<NameList>,
     /// The tables that are named, and those of a root that are there.
     pub tables: TableFiles,
     /// The contents of the facts file, if one is named.

@@ -20,9 +20,10 @@ pub use inputs::{
     TableFile, TableFiles,
 };
 pub use names::{kind_name, problem_name, stack_of};
+pub use pam_findings::host::may_name_file;
 pub use report::{
     AccessReply, AskedModule, CheckReply, CompareReply, GraphReply, JudgedPolicy, NeedsReply,
     Outcome, Outcomes, OutcomesReply, PageRenderer, PathsPage, PolicyReply, ReleasedReply, Reply,
-    RunReply, StackReply, Status, Trace, path_at, policy_level, reply_to,
+    RunReply, StackReply, Status, Trace, UnusedLine, path_at, policy_level, reply_to,
 };
 pub use tables::{TablePaths, table_problem_level, table_problem_name};

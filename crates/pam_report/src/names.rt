@@ -29,6 +29,7 @@ fn argument_name(wrong: ArgumentProblem) -> &'static str
         ArgumentProblem::BadValue => "S18 BadValue",
         ArgumentProblem::NoToken => "S20 NoToken",
         ArgumentProblem::Weak => "S23 WeakHash",
+        ArgumentProblem::MissingFile(_) => "S24 MissingFile",
     }
 }
 

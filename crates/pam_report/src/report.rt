@@ -34,6 +34,7 @@ mod show;
 mod table_keys;
 mod time;
 mod trace;
+mod unused;
 
 use crate::fault::Fault;
 use crate::inputs::Inputs;
@@ -42,6 +43,7 @@ pub use check::CheckReply;
 use check::{CheckRequest, checked};
 pub use compare::CompareReply;
 use compare::{CompareRequest, compared};
+pub(crate) use compared_keys::names_module;
 pub use decide::RunReply;
 use decide::decided;
 use explain::explained;
@@ -61,11 +63,13 @@ use policy::{PolicyRequest, answer_policy};
 pub use released::ReleasedReply;
 pub use renderer::PageRenderer;
 pub use replies::{AccessReply, Reply};
+pub(crate) use settings::names_one;
 pub use show::StackReply;
 use show::{ShowRequest, shown_by};
 use std::alloc::Global;
 use time::{answer_time, given_moment, moment_of};
 pub use trace::{AskedModule, Trace, path_at};
+pub use unused::UnusedLine;
 
 /// How a request was answered, which gives the exit status.
 #[derive(Clone, Copy, Debug, PartialEq, Eq)]

@@ -18,7 +18,7 @@ use Rattle.pam_findings.specs.tables.Report.{IsTableReport}
 use Rattle.pam_findings.specs.declared.tables.problem.TableFinding.{TableFinding}
 use Rattle.pam_findings.specs.declared.tables.problem.TablePlace.{TablePlace}
 use Rattle.pam_report.specs.Accepting.{table_findings}
-use Rattle.pam_report.specs.Inputs.{accept_given, facts_given, host_tables_given, outside_given, there_given, vendor_start_given}
+use Rattle.pam_report.specs.Inputs.{accept_given, facts_given, host_tables_given, named_files_given, outside_given, there_given, vendor_start_given}
 use Rattle.pam_report.specs.declared.fault.Fault.{Fault}
 use Rattle.pam_report.specs.declared.fault.Fault.TheVariants as faults
 use Rattle.pam_report.specs.TablePaths.{TablePathsText}
@@ -33,7 +33,7 @@ pub record IsReported (services : List (List ℕ)) (files : Folder) (inputs : In
   pub are_services : report.services ≡ checked_services files services
   pub plain : BTreeMap Place Finding
   pub ways : List (Option WayIn)
-  pub is_report : IsReport files (vendor_start_given inputs) services facts (there_given inputs) plain ways
+  pub is_report : IsReport files (vendor_start_given inputs) services facts (there_given inputs) (named_files_given inputs) plain ways
   pub links : WithLinks (outside_given inputs) plain report.found
   pub told_ways : report.ways_in.items ≡ map (told_way (outside_given inputs)) ways
 

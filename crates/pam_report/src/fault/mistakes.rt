@@ -18,7 +18,6 @@ fn plain_text(mistake: Mistake<'_>) -> &'static str
     ensures { result.now ≡ spec.plain_text (mistake_view mistake.entry) }
 {
     match mistake {
-        Mistake::NoSource => { ": no source is named; write --dir DIR, --conf FILE or --root DIR" }
         Mistake::ManySources => {
             ": more than one source is named; write one of --dir DIR, --conf FILE and --root DIR"
         }
@@ -31,6 +30,7 @@ fn plain_text(mistake: Mistake<'_>) -> &'static str
         Mistake::BesideConf => {
             ": a file of a folder is given beside --conf; write the rules that it has into the FILE of --conf"
         }
+        Mistake::BesideJson => ": another form is named beside --json; write one of them",
         Mistake::NoUser => ": a table is given without a user; write --user USER",
         Mistake::NoMoment => {
             ": not one moment is given; write --at as 2024-05-06T10:00, or --at-unix SECONDS, alone or with --zone RULE"
@@ -53,6 +53,7 @@ fn mistake_text(alloc: Global, mistake: Mistake<'_>) -> Result<Vec<u8>, AllocErr
         Mistake::Kind(word) => word_text(alloc, Meant::Kind, word.as_bytes()),
         Mistake::Code(word) => word_text(alloc, Meant::Code, word),
         Mistake::Drawing(word) => word_text(alloc, Meant::Drawing, word.as_bytes()),
+        Mistake::Form(word) => word_text(alloc, Meant::Form, word.as_bytes()),
         Mistake::Level(word) => word_text(alloc, Meant::Level, word.as_bytes()),
         Mistake::Answers(word) => word_text(alloc, Meant::Answers, word.as_bytes()),
         Mistake::Setting(word) => named_text(alloc, Meant::Setting, None, word.as_bytes()),

@@ -20,12 +20,15 @@ pub(crate) enum Meant {
     Kind,
     Code,
     Drawing,
+    Form,
     Level,
     Answers,
     Setting,
     Candidate,
     File,
     Number,
+    Key,
+    NoCode,
 }
 
 #[tactic(auto, unfolding(crate::specs::Mistakes::said_of))]
@@ -35,13 +38,15 @@ fn said_of(meant: Meant) -> &'static str
     match meant {
         Meant::Kind => "is no kind",
         Meant::Code => "is no return code",
-        Meant::Drawing => "is no format",
+        Meant::Drawing | Meant::Form => "is no format",
         Meant::Level => "is no level",
         Meant::Answers => "is no value of --answers",
         Meant::Setting => "is not KEY=CODES",
         Meant::Candidate => "is not NAME=FILE, or its NAME has a slash",
         Meant::File => "is a folder",
         Meant::Number => "is the number of no fault or finding",
+        Meant::Key => "of --set names no module",
+        Meant::NoCode => "of --set has no code",
     }
 }
 
@@ -53,12 +58,15 @@ fn mending_of(meant: Meant) -> &'static str
         Meant::Kind => "write auth, account, password or session",
         Meant::Code => "write one as success",
         Meant::Drawing => "write dot, mermaid or svg",
+        Meant::Form => "write short, json or sarif",
         Meant::Level => "write error, warning or note",
         Meant::Answers => "write any or possible",
         Meant::Setting => "write one as pam_unix.so=success",
         Meant::Candidate => "write one as sshd=candidate",
         Meant::File => "write the file of a service, or --dir before it",
         Meant::Number => "write one as S2, or none to list all",
+        Meant::Key => "write the name of one as pam_unix.so, with its ending",
+        Meant::NoCode => "write one as success",
     }
 }
 
@@ -184,6 +192,14 @@ fn nearest_drawing(word: &[u8]) -> Option<&'static [u8]>
 }
 
 #[tactic(auto, unfolding(crate::specs::Mistakes::right_words))]
+fn nearest_form(word: &[u8]) -> Option<&'static [u8]>
+    ensures { option_map (λ w. w.now) result ≡ nearest (spec.right_words meant.Form) word.now }
+{
+    let words: [&[u8]; 3] = [b"short", b"json", b"sarif"];
+    nearest(&words, word)
+}
+
+#[tactic(auto, unfolding(crate::specs::Mistakes::right_words))]
 fn nearest_level(word: &[u8]) -> Option<&'static [u8]>
     ensures { option_map (λ w. w.now) result ≡ nearest (spec.right_words meant.Level) word.now }
 {
@@ -212,9 +228,15 @@ fn nearest_right(
         Meant::Kind => Ok(nearest_kind(word)),
         Meant::Code => nearest_code(alloc, word),
         Meant::Drawing => Ok(nearest_drawing(word)),
+        Meant::Form => Ok(nearest_form(word)),
         Meant::Level => Ok(nearest_level(word)),
         Meant::Answers => Ok(nearest_answers(word)),
-        Meant::Setting | Meant::Candidate | Meant::File | Meant::Number => Ok(nearest(&[], word)),
+        Meant::Setting
+        | Meant::Candidate
+        | Meant::File
+        | Meant::Number
+        | Meant::Key
+        | Meant::NoCode => Ok(nearest(&[], word)),
     }
 }
 

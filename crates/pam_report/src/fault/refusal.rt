@@ -8,15 +8,16 @@ ghost use Rattle.pam_report.specs.Fault.{line_of};
 ghost use Rattle.pam_report.specs.FaultTable.{candidate_row as row_of_candidate, number_row as row_of_number, service_row as row_of_service};
 ghost use Rattle.pam_report.specs.Inputs.{files_given, new_given, no_files, old_given};
 ghost use Rattle.pam_report.specs.Refusal as spec;
-ghost use Rattle.pam_report.specs.Services.{has_service};
 ghost use Rattle.pam_words.specs.Wanted.{candidate_view};
 
+use super::keys::key_line;
+use super::missing::{files_of, missing_among, missing_line, side_named};
 use super::naming::{hint, number_text};
 use super::policies::line_of_policy;
 use super::table::{candidate_row, number_row, service_row};
 use super::{Fault, fault_text, line};
 use crate::candidates::first_unused;
-use crate::inputs::{Inputs, SideInputs};
+use crate::inputs::Inputs;
 use crate::services::{Services, file_names, lowered};
 use pam_codes::Piece;
 use pam_conf::{Files, Form};
@@ -24,103 +25,6 @@ use pam_spelling::nearest;
 use pam_text::Texts;
 use pam_words::{Candidate, ConfSource, Request, Task};
 use std::alloc::{AllocError, Global};
-
-/// Where there is no file or rule.
-fn place(alloc: Global, source: ConfSource<'_>, form: Form) -> Result<Vec<u8>, AllocError>
-    ensures { IfOk result (λ text. text.items ≡ spec.place_in source.entry form) }
-{
-    let mut text = Vec::new(alloc);
-    match source {
-        ConfSource::Dir(name) | ConfSource::Conf(name) => text.extend_from_slice(name.as_bytes())?,
-        ConfSource::Over { folder, vendor } => {
-            text.extend_from_slice(folder.as_bytes())?;
-            text.extend_from_slice(b" or ")?;
-            text.extend_from_slice(vendor.as_bytes())?;
-        }
-        ConfSource::Root(_) => match form {
-            Form::Dir => text.extend_from_slice(b"etc/pam.d")?,
-            Form::Single => text.extend_from_slice(b"etc/pam.conf")?,
-        },
-    }
-    Ok(text)
-}
-
-fn what_is_missing(form: Form) -> &'static [u8]
-    ensures { result.now ≡ spec.what_is_missing form }
-{
-    match form {
-        Form::Dir => b": there is no file \"",
-        Form::Single => b": there is no rule of \"",
-    }
-}
-
-/// The line about a name that is no service of a configuration.
-fn missing_line(
-    alloc: Global,
-    files: &Files,
-    source: ConfSource<'_>,
-    name: &[u8],
-) -> Result<Vec<u8>, AllocError>
-    ensures { IfOk result (λ text. text.items
-        ≡ line_of row_of_service (spec.missing_text files.now (spec.place_in source.entry files.now.form) name.now)) }
-{
-    let services = Services::of(alloc, files)?;
-    let hint = hint(alloc, services.nearest(alloc, name)?)?;
-    let place = place(alloc, source, files.form())?;
-    line(
-        alloc,
-        service_row(),
-        &[
-            Piece::Bytes(what_is_missing(files.form())),
-            Piece::Bytes(name),
-            Piece::Bytes(b"\" in "),
-            Piece::Bytes(&place),
-            Piece::Bytes(&hint),
-        ],
-    )
-}
-
-/// The first of these names that is no service.
-fn first_missing<'x>(
-    alloc: Global,
-    files: &Files,
-    names: &'x Texts,
-) -> Result<Option<&'x [u8]>, AllocError>
-    ensures { IfOk result (λ name. option_map (λ n. n.now) name ≡ spec.first_missing files.now names.now) }
-{
-    let services = Services::of(alloc, files)?;
-    for name in names.iter() {
-        if !services.has(alloc, name)? {
-            return Ok(Some(name));
-        }
-    }
-    Ok(None)
-}
-
-/// The line about the first of these names that is no service.
-fn missing_among(
-    alloc: Global,
-    files: &Files,
-    source: ConfSource<'_>,
-    names: &Texts,
-) -> Result<Vec<u8>, AllocError>
-    ensures { IfOk result (λ text. text.items ≡ line_of row_of_service (spec.missing_among files.now source.entry names.now)) }
-{
-    match first_missing(alloc, files, names)? {
-        Some(name) => missing_line(alloc, files, source, name),
-        None => line(alloc, service_row(), &[]),
-    }
-}
-
-/// A side of a comparison as the command line names it.
-fn side_named<'a>(source: ConfSource<'a>) -> &'a [u8]
-    ensures { result.now ≡ spec.side_named source.entry }
-{
-    match source {
-        ConfSource::Dir(name) | ConfSource::Conf(name) | ConfSource::Root(name) => name.as_bytes(),
-        ConfSource::Over { folder, .. } => folder.as_bytes(),
-    }
-}
 
 /// The hint for a name that is no service of either configuration: the nearest name of the new one, or else of the old one.
 fn hint_of_sides(
@@ -137,16 +41,6 @@ fn hint_of_sides(
     }
     let old_services = Services::of(alloc, old)?;
     hint(alloc, old_services.nearest(alloc, name)?)
-}
-
-fn files_of<'x>(side: Option<&'x SideInputs>, none: &'x Files) -> &'x Files
-    requires { none.now ≡ no_files }
-    ensures { result.now ≡ (side_of (option_map (λ s. s.now) side.entry)).folder }
-{
-    match side {
-        Some(side) => &side.files,
-        None => none,
-    }
 }
 
 /// The line about a name that neither of these two sides has.
@@ -344,13 +238,14 @@ fn line_with(
         Fault::NoSuchService => unknown_line(alloc, request, files, inputs),
         Fault::UnusedCandidate => first_unused_line(alloc, request, files),
         Fault::NoSuchNumber => number_line(alloc, request),
+        Fault::NoSuchKey => key_line(alloc, request, files, inputs),
         Fault::Policy(error) => line_of_policy(alloc, request, error),
         _ => fault_text(alloc, fault, files),
     }
 }
 
 /// Returns the line of a fault of a request: `pamcheck: NUMBER NAME`, with its place if it has one, and what is said of a name that is
-/// no service, of a candidate that no service reads, or of a number that nothing has. A policy is named as the request names it.
+/// no service, of a candidate that no service reads, of a number that nothing has, or of a key that names no module. A policy is named as the request names it.
 pub fn refusal_text(
     alloc: Global,
     fault: &Fault,

@@ -13,7 +13,8 @@ impl Inputs {
     ghost use Rattle.std.specs.Prelude.{◌≡◌, [], option_map};
     ghost use Rattle.std.specs.Option.{option_map_or};
     ghost use Rattle.pam_report.specs.Inputs.{accept_given, access_given, facts_given, files_given};
-    ghost use Rattle.pam_report.specs.Inputs.{group_file, host_tables_given, new_given, old_given, outside_given, paths_given, policies_given, returns_given};
+    ghost use Rattle.pam_report.specs.Inputs.{group_file, host_tables_given, named_files_given, new_given, old_given, outside_given, paths_given};
+    ghost use Rattle.pam_report.specs.Inputs.{policies_given, returns_given};
     ghost use Rattle.pam_report.specs.Inputs.{table_paths_given, there_given, time_given, vendor_start_given};
     ghost use Rattle.pam_report.specs.TablePaths.{table_paths_view};
     ghost use Rattle.pam_findings.specs.tables.Tables.{tables_view as host_tables_view};
@@ -40,6 +41,16 @@ impl Inputs {
         match self {
             Inputs::Host { given, .. } => given.there.as_ref(),
             Inputs::Paths { given, .. } => given.there.as_ref(),
+            _ => None,
+        }
+    }
+
+    /// Returns the arguments that name a file which is there, if that is known.
+    pub(crate) fn named_files(&self) -> Option<&NameList>
+        ensures { option_map (λ t. t.now) result ≡ named_files_given self.now }
+    {
+        match self {
+            Inputs::Host { given, .. } => given.named_files.as_ref(),
             _ => None,
         }
     }

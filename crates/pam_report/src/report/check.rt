@@ -1,23 +1,26 @@
 //! The `check` command: what is wrong with a host.
 
 ghost use Rattle.std.specs.Prelude.{◌≡◌, [], IfOk, IfErr, MatchResult, map, true, unwrap_or};
+ghost use Rattle.std.specs.List.{list_any};
 ghost use Rattle.std.specs.Option.{option_copied};
 ghost use Rattle.pam_report.specs.Candidates.{IfUsed, first_unused};
 ghost use Rattle.pam_report.specs.Check.{IsCheck};
 ghost use Rattle.pam_report.specs.inner.Check.{IsAccepted, IsListedFrom, IsReported, IsUnaccepted, IsUnreported};
 ghost use Rattle.pam_report.specs.Finds.{Finds};
-ghost use Rattle.pam_report.specs.Inputs.{host_tables_given};
+ghost use Rattle.pam_report.specs.Inputs.{facts_given, host_tables_given, there_given};
 ghost use Rattle.pam_findings.specs.tables.Report.{IsTableReport};
 ghost use Rattle.pam_report.specs.Memory.{WantsOnly, of_stack};
-ghost use Rattle.pam_report.specs.Reply.{check_status, counts, has_counting, has_counting_table};
+ghost use Rattle.pam_report.specs.Reply.{check_status, counts, has_counting, has_counting_line, has_counting_table};
 ghost use Rattle.pam_report.specs.ReplyViews.{check_view};
 ghost use Rattle.pam_report.specs.Services.{IfServices, has_services};
 ghost use Rattle.pam_report.specs.TablePaths.{table_paths_view};
+ghost use Rattle.pam_report.specs.Unused.{idle_rows, level_of_unused, unused_lines as spec_unused_lines, unused_view};
 ghost use Rattle.pam_words.specs.Wanted.{candidate_view};
 
 use super::Status;
 use super::accepting::{Listed, list_findings};
 use super::replies::Reply;
+use super::unused::{UnusedLine, unused_lines};
 use crate::candidates::require_used;
 use crate::fault::{Fault, accept_fault, facts_fault};
 use crate::inputs::Inputs;
@@ -27,7 +30,7 @@ use pam_conf::{Files, Form};
 use pam_facts::Facts;
 use pam_findings::accepted::AcceptFile;
 use pam_findings::host::laws::{a_silent_host_is_sound, links_are_notes};
-use pam_findings::host::{Finding, HostReport, Level, Place};
+use pam_findings::host::{Finding, HostReport, Installed, Level, Place};
 use pam_findings::misspelled::{Misspelled, misspelled_words};
 use pam_findings::tables::{TableFinding, TableReport};
 use pam_text::Texts;
@@ -51,8 +54,10 @@ pub struct CheckReply<'a> {
     pub tables: Vec<TableFinding>,
     /// The name of the accept file, empty if there is none.
     pub accept: &'a str,
-    /// The numbers of its lines that accept nothing (S8), from 1.
-    pub unused: Vec<u32>,
+    /// That of the facts file.
+    pub facts: &'a str,
+    /// The lines of these two that say nothing of the host (S8).
+    pub unused: Vec<UnusedLine>,
     /// The least level of a finding that makes the status a refusal.
     pub fail_on: LevelName,
 }
@@ -93,15 +98,28 @@ fn has_counting_table(tables: &[TableFinding], fail_on: LevelName) -> bool
     tables.iter().any(|finding| counts(fail_on, table_problem_level(finding.problem)))
 }
 
+/// Whether some line that says nothing counts.
+fn some_line_counts(unused: &[UnusedLine], fail_on: LevelName) -> bool
+    ensures { result ≡ list_any (λ line. counts fail_on (level_of_unused (unused_view line))) unused.now }
+{
+    unused.iter().any(|line| counts(fail_on, line.level()))
+}
+
+/// The same, by the values of the lines.
+fn has_counting_line(unused: &[UnusedLine], fail_on: LevelName) -> bool
+    ensures { result ≡ has_counting_line fail_on (map unused_view unused.now) }
+{
+    some_line_counts(unused, fail_on)
+}
+
 impl CheckReply<'_> {
     /// Returns a refusal if a finding or a problem of a table counts.
     pub(super) fn status(&self) -> Status
         ensures { result ≡ check_status (check_view self.now) }
     {
-        let has_unused = counts(self.fail_on, Level::Warning) && !self.unused.is_empty();
         if has_counting(&self.found, self.fail_on)
             || has_counting_table(&self.tables, self.fail_on)
-            || has_unused
+            || has_counting_line(&self.unused, self.fail_on)
         {
             Status::Refusal
         } else {
@@ -129,7 +147,10 @@ fn report(
         inputs.vendor_start(),
         services,
         &facts,
-        inputs.there(),
+        Installed {
+            modules: inputs.there(),
+            files: inputs.named_files(),
+        },
     ) else {
         return Err(Fault::Memory);
     };
@@ -183,11 +204,28 @@ fn list_unaccepted(
     }
 }
 
-/// Returns the name of the accept file, empty if none is named.
-fn accept_name<'a>(given: &CheckFiles<'a>) -> &'a str
-    ensures { result.now ≡ unwrap_or (option_copied given.now.accept) [] }
+/// Returns the lines that say nothing of the host, of which those of the accept file are known.
+fn lines_unused(
+    alloc: Global,
+    accept: &[u32],
+    files: &Files,
+    inputs: &Inputs,
+) -> Result<Vec<UnusedLine>, Fault>
+    ensures ok { IfOk result (λ unused. map unused_view unused.items
+        ≡ spec_unused_lines accept.now (idle_rows files.now (there_given inputs.now) (facts_given inputs.now))) }
+    ensures err { IfErr result (λ fault. fault ≡ Fault.Memory) }
 {
-    match given.accept {
+    match unused_lines(alloc, accept, files, inputs.there(), inputs.facts_file()) {
+        Ok(unused) => Ok(unused),
+        Err(_) => Err(Fault::Memory),
+    }
+}
+
+/// Returns the name of a file, empty if none is named.
+fn name_of<'a>(named: Option<&'a str>) -> &'a str
+    ensures { result.now ≡ unwrap_or (option_copied named.entry) [] }
+{
+    match named {
         Some(name) => name,
         None => "",
     }
@@ -255,6 +293,7 @@ fn checked_services<'a>(
     ) else {
         return Err(Fault::Memory);
     };
+    let unused = lines_unused(alloc, &listed.unused, files, inputs)?;
     Ok(Reply::Check(CheckReply {
         form: files.form(),
         paths: inputs.paths(),
@@ -263,8 +302,9 @@ fn checked_services<'a>(
         misspelled,
         table_paths: paths,
         tables: listed.tables,
-        accept: accept_name(asked.given),
-        unused: listed.unused,
+        accept: name_of(asked.given.accept),
+        facts: name_of(asked.given.facts),
+        unused,
         fail_on: asked.fail_on,
     }))
 }

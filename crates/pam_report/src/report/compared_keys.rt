@@ -48,7 +48,7 @@ fn has_module(alloc: Global, rules: &RuleFiles<'_>, name: &[u8]) -> Result<bool,
 }
 
 /// Whether a setting has codes, and names a module of either configuration.
-fn names_module(
+pub(crate) fn names_module(
     alloc: Global,
     old: &RuleFiles<'_>,
     new: &RuleFiles<'_>,

@@ -121,7 +121,7 @@ fn sets_at(files: &Files, stack: &Stack, setting: &Setting<'_>, number: usize) -
 }
 
 /// Whether a setting names a module of a stack.
-fn names_one(files: &Files, stack: &Stack, setting: &Setting<'_>) -> bool
+pub(crate) fn names_one(files: &Files, stack: &Stack, setting: &Setting<'_>) -> bool
     ensures { result ≡ names_one_of files.now stack.now (setting_view setting.now) }
 {
     for index in 0..stack.modules() {

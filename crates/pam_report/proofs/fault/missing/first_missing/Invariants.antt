@@ -1,6 +1,6 @@
 use Rattle.std.proofs.Common.{◌≡◌}
 use Rattle.pam_report.specs.Refusal.{first_missing}
-use Rattle.pam_report.proofs.fault.refusal.first_missing.Given as goal
+use Rattle.pam_report.proofs.fault.missing.first_missing.Given as goal
 
 -- the first of the names that are left is the first of all
 abbrev pub invariant-loop-name : goal.invariant-loop-name
