@@ -4,3 +4,4 @@ pub mod ItemLines
 pub mod PathLists
 pub mod PolicyLines
 pub mod Printed
+pub mod UnusedCounts

@@ -13,7 +13,9 @@ mod ways;
 mod writes;
 
 pub use changes::{compared_count, file_of, is_grave, occurrence, service_at};
-pub use check::{Counts, Names, counts_of, names_of, path_of, stacks_of, text_at, word_at};
+pub use check::{
+    Counts, Names, counts_of, names_of, path_of, spot_of, stacks_of, text_at, told_line, word_at,
+};
 pub use compared::{
     CompareLine, CompareLines, DifferingStack, Head, RefusedStack, Side, write_compared,
 };

@@ -17,8 +17,10 @@ pub use needs::{events_in, put_needed_rule};
 pub use phrase::{Phrase, Phrases, put_phrases};
 pub use policy::{policy_finding_name, put_policy_said};
 pub use problems::{
-    UNUSED, argument_naming, level_name, module_naming, problem_sentence, put_said,
+    UNUSED, argument_naming, idle_naming, level_name, module_naming, problem_sentence, put_said,
+    put_unused_said,
 };
 pub use refusals::refusal_sentence;
+pub(crate) use shown::hidden_text;
 pub use shown::{MAX_SHOWN, put_name, put_name_within};
 pub use tables::{put_table_said, table_fault_sentence, time_fault_sentence};

@@ -4,7 +4,7 @@ use Rattle.std.specs.List.{concat}
 use Rattle.std.specs.Option.{option_map, option_map_or}
 use Rattle.pam_conf.specs.declared.error.FaultKind.{FaultKind}
 use Rattle.pam_findings.specs.misspelled.Misspelled.{MisspelledText}
-use Rattle.pam_render.specs.sentences.Faults.{Naming, fault_text, mending_text, named_text, naming_of, naming_text, plain_sentence}
+use Rattle.pam_render.specs.sentences.Faults.{Naming, after_text, fault_text, mending_text, named_text, naming_of, naming_text, plain_sentence}
 use Rattle.pam_render.specs.sentences.Shown.{quoted}
 
 -- MENDING
@@ -22,8 +22,8 @@ asked-is nearest right mending e = rw e refl
 
 -- THE WORD
 
-pub naming-is : (m : MisspelledText) (n : Naming) (before word after mending : List ℕ) → before ≡ n.before → word ≡ m.word → after ≡ n.after
-    → mending ≡ mending_text m.nearest n.mending → ((before ++ quoted word) ++ after) ++ mending ≡ named_text m n
+pub naming-is : (m : MisspelledText) (n : Naming) (before word after mending : List ℕ) → before ≡ n.before → word ≡ m.word
+    → after ≡ after_text n.after m.word → mending ≡ mending_text m.nearest n.mending → ((before ++ quoted word) ++ after) ++ mending ≡ named_text m n
 naming-is m n before word after mending e f g h = rw (e, f, g, h) refl
 
 pub named-is : (line : ℕ) (fault : FaultKind) (m : MisspelledText) (n : Naming) → Some n ≡ naming_of fault → naming_text m n ≡ fault_text line fault (Some m)

@@ -1,8 +1,9 @@
 -- Names and words as they are shown, part by part.
-use Rattle.std.proofs.Common.{◌≡◌, ◌<◌, ℕ, ◌/◌, ◌%◌, ◌-◌, Bool, true, List, [], ◌∷◌, ◌++◌, codes, ap, arith, length, max, refl, sym, take, ◌∙◌}
+use Rattle.std.proofs.Common.{◌≡◌, ◌==◌, ◌<◌, ℕ, ◌/◌, ◌%◌, ◌-◌, Bool, true, List, [], ◌∷◌, ◌++◌, codes, ap, arith, length, max, refl, sym, take, ◌∙◌}
 use Rattle.std.proofs.lemmas.Bool.{lt-ltb}
 use Rattle.std.specs.Prelude.{if◌then◌else◌}
-use Rattle.pam_render.specs.sentences.Shown.{byte_within, hex_digit, hidden_len, is_numbered, quoted, shown_byte, shown_bytes, shown_name, shown_word}
+use Rattle.pam_text.proofs.TextSteps.{unequal}
+use Rattle.pam_render.specs.sentences.Shown.{byte_within, first_hidden, hex_digit, hidden_at, hidden_len, is_numbered, quoted, shown_byte, shown_bytes, shown_name, shown_word}
 
 -- NAMES
 
@@ -36,3 +37,28 @@ long-is word long = ap (λ (b : Bool). if b then shown_name (take 64 word) ++ co
 pub quoted-is : (word : List ℕ) → (codes "\"" ++ shown_word word) ++ codes "\"" ≡ quoted word
 unfolding quoted
 quoted-is word = refl
+
+-- THE FIRST HIDDEN CHARACTER
+
+abbrev chosen : List ℕ → ℕ → Bool → ℕ
+chosen after character is_none = if is_none then first_hidden after else character
+
+-- it is at the front, or it is that of the bytes after it
+pub first-met : (left after : List ℕ) (byte character : ℕ) → left ≡ byte ∷ after → character ≡ hidden_at left → (character ≡ 0 → ⊥)
+    → character ≡ first_hidden left
+unfolding first_hidden
+first-met left after byte character e c n =
+    let front : character ≡ hidden_at (byte ∷ after) = c ∙ ap hidden_at e in
+    front ∙ sym (ap (chosen after (hidden_at (byte ∷ after))) (unequal (hidden_at (byte ∷ after)) 0 (λ q. n (front ∙ q)))) ∙ sym (ap first_hidden e)
+
+pub first-later : (left after : List ℕ) (byte character : ℕ) → left ≡ byte ∷ after → character ≡ hidden_at left → character ≡ 0
+    → first_hidden after ≡ first_hidden left
+unfolding first_hidden
+first-later left after byte character e c z =
+    let none : hidden_at (byte ∷ after) ≡ 0 = sym (c ∙ ap hidden_at e) ∙ z in
+    sym (ap (λ (n : ℕ). chosen after (hidden_at (byte ∷ after)) (n == 0)) none) ∙ sym (ap first_hidden e)
+
+pub first-none : (left : List ℕ) → length left ≡ 0 → 0 ≡ first_hidden left
+unfolding first_hidden
+first-none [] h = refl
+first-none (byte ∷ left) h = absurd (omega (arith, h))

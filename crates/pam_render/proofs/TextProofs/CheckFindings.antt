@@ -10,10 +10,11 @@ use Rattle.pam_findings.specs.declared.host.report.Finding.{Finding}
 use Rattle.pam_findings.specs.declared.host.way_in.Answered.{Answered}
 use Rattle.pam_facts.specs.known.Answers.{name_of_path}
 use Rattle.pam_findings.specs.misspelled.Misspelled.{MisspelledText}
+use Rattle.pam_findings.specs.declared.misspelled.spot.Spot.{Spot}
 use Rattle.pam_report.specs.Decide.{path_at}
 use Rattle.pam_report.specs.Names.{problem_name}
 use Rattle.pam_render.specs.text.Check.{answer_text, answers_text, finding_line, next_answer, place_text, sentence}
-use Rattle.pam_render.specs.parts.Check.{Names}
+use Rattle.pam_render.specs.parts.Check.{Names, spot_of}
 use Rattle.pam_render.specs.sentences.Shown.{shown_name}
 use Rattle.pam_render.specs.sentences.Sentences as say
 
@@ -41,10 +42,10 @@ line_parts : (place level name said : List ℕ) → ((place ++ concat (level ∷
     ≡ place ++ level ++ codes ": " ++ name ++ codes ": " ++ said ++ codes "\n"
 line_parts place level name said = simp (append_assoc, append-nil)
 
-pub finding_line-is : (names : Names) (place : Place) (finding : Finding) (word : Option MisspelledText) (level name : List ℕ)
-    → level ≡ say.level_name (level_of finding.problem) → name ≡ problem_name finding.problem
-    → ((place_text names.paths place ++ concat (level ∷ codes ": " ∷ name ∷ codes ": " ∷ []))
+pub finding_line-is : (names : Names) (place : Place) (finding : Finding) (word : Option MisspelledText) (spot : Option Spot) (level name : List ℕ)
+    → spot ≡ spot_of word → level ≡ say.level_name (level_of finding.problem) → name ≡ problem_name finding.problem
+    → ((place_text names.paths place spot ++ concat (level ∷ codes ": " ∷ name ∷ codes ": " ∷ []))
     ++ sentence names place finding.met finding.problem word) ++ codes "\n" ≡ finding_line names (place, finding) word
 unfolding finding_line
-finding_line-is names place finding word level name e f =
-    line_parts (place_text names.paths place) level name (sentence names place finding.met finding.problem word) ∙ rw (e, f) refl
+finding_line-is names place finding word spot level name s e f =
+    line_parts (place_text names.paths place spot) level name (sentence names place finding.met finding.problem word) ∙ rw (s, e, f) refl

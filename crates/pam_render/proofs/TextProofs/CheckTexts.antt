@@ -6,8 +6,8 @@ use Rattle.pam_report.specs.TablePaths.{level_of_table_problem, table_problem_na
 use Rattle.pam_findings.specs.declared.tables.problem.TableFinding.{TableFinding}
 use Rattle.pam_text.proofs.TextSteps.{unequal}
 use Rattle.pam_render.specs.text.Check.{checked_line, counted, levels_text}
-use Rattle.pam_render.specs.sentences.Shown.{shown_name}
-use Rattle.pam_render.specs.text.Check.{table_heading, unused_line}
+use Rattle.pam_render.specs.text.Check.{table_heading, unused_heading}
+use Rattle.pam_report.specs.Unused.{UnusedText, level_of_unused, number_of_unused}
 use Rattle.pam_render.specs.declared.parts.check.Counts.{Counts}
 use Rattle.pam_render.specs.sentences.Sentences as say
 
@@ -24,17 +24,16 @@ pub checked_line-is : (count : ℕ) (name : List ℕ) (stacks : ℕ) (counts : C
 unfolding checked_line
 checked_line-is count name stacks counts = refl
 
--- LINES OF THE ACCEPT FILE
+-- LINES THAT SAY NOTHING
 
-unused_parts : (accept line middle said : List ℕ)
-    → accept ++ concat (codes ":" ∷ line ∷ middle ∷ said ∷ codes "\n" ∷ []) ≡ accept ++ codes ":" ++ line ++ middle ++ said ++ codes "\n"
-unused_parts accept line middle said = simp (append_assoc, append-nil)
+unused_parts : (line colon level name : List ℕ)
+    → concat (codes ":" ∷ line ∷ colon ∷ level ∷ name ∷ []) ≡ codes ":" ++ line ++ colon ++ level ++ name
+unused_parts line colon level name = simp (append_assoc, append-nil)
 
-pub unused_line-is : (accept : List ℕ) (line : ℕ)
-    → shown_name accept ++ concat (codes ":" ∷ decimal line ∷ codes ": warning: S8 NothingAccepted: " ∷ say.unused_sentence ∷ codes "\n" ∷ [])
-    ≡ unused_line accept line
-unfolding unused_line
-unused_line-is accept line = unused_parts (shown_name accept) (decimal line) (codes ": warning: S8 NothingAccepted: ") say.unused_sentence
+pub unused_heading-is : (unused : UnusedText) (number : ℕ) (level : List ℕ) → number ≡ number_of_unused unused
+    → level ≡ say.level_name (level_of_unused unused)
+    → concat (codes ":" ∷ decimal number ∷ codes ": " ∷ level ∷ codes ": S8 UnusedLine: " ∷ []) ≡ unused_heading unused
+unused_heading-is unused number level e f = unused_parts (decimal number) (codes ": ") level (codes ": S8 UnusedLine: ") ∙ rw (e, f) refl
 
 -- LINES FOR PROBLEMS OF TABLES
 

@@ -9,7 +9,6 @@ use Rattle.pam_conf.specs.declared.rule.Kind.{Kind}
 use Rattle.pam_conf.specs.declared.rule.Kind.TheVariants.{Auth, Account, Password, Session}
 use Rattle.pam_findings.specs.host.Levels.{level_of}
 use Rattle.pam_findings.specs.declared.host.level.Level.{Level}
-use Rattle.pam_findings.specs.declared.host.level.Level.TheVariants.{Warning}
 use Rattle.pam_facts.specs.declared.kinds.Kinds.{Kinds}
 use Rattle.pam_findings.specs.declared.host.met.Met.{Met}
 use Rattle.pam_findings.specs.declared.host.problem.Place.{Place}
@@ -21,18 +20,20 @@ use Rattle.pam_findings.specs.declared.host.way_in.WayIn.{WayIn}
 use Rattle.pam_render.specs.json_lines.Line.{items_of, joined, kind, line, members_of, number_or_null, readable, readable_or_null}
 use Rattle.pam_facts.specs.known.Answers.{name_of_path}
 use Rattle.pam_findings.specs.misspelled.Misspelled.{MisspelledText}
-use Rattle.pam_render.specs.parts.Check.{Names, path_of, stacks_of, text_at}
+use Rattle.pam_findings.specs.declared.misspelled.spot.Spot.{Spot}
+use Rattle.pam_render.specs.parts.Check.{Names, path_of, spot_of, stacks_of, text_at, told_line}
 use Rattle.pam_render.specs.parts.Findings.{Found, InTable, Last, Line, Unused, check_lines}
 use Rattle.pam_render.specs.declared.parts.check.Counts.{Counts}
 use Rattle.pam_report.specs.Decide.{path_at}
 use Rattle.pam_report.specs.Names.{problem_name, stack_of}
 use Rattle.pam_report.specs.Reply.{CheckValue}
 use Rattle.pam_report.specs.TablePaths.{TablePathsText, level_of_table_problem, path_of as path_of_table, table_problem_name}
-use Rattle.pam_render.specs.sentences.Sentences.{level_name, unused_sentence}
+use Rattle.pam_report.specs.Unused.{UnusedText, level_of_unused, number_of_unused}
+use Rattle.pam_render.specs.sentences.Sentences.{level_name}
 use Rattle.pam_findings.specs.declared.tables.problem.TableFinding.{TableFinding}
 use Rattle.serde_json.specs.Data.{Data, array, no_items, number, object, string, unsigned}
 use Rattle.pam_render.specs.json_text.Header.{is_space, kind_name}
-use Rattle.pam_render.specs.json_text.Sentences.{said_parts, table_parts}
+use Rattle.pam_render.specs.json_text.Sentences.{said_parts, table_parts, unused_parts}
 
 -- WHERE AND WHAT
 
@@ -41,9 +42,10 @@ abbrev pub line_if_any : ℕ → Option ℕ
 line_if_any at = if at == 0 then None else Some at
 
 -- the place of a problem, how grave it is, its number and its name, and what is said of it
-abbrev pub place_members : List ℕ → ℕ → Level → List ℕ → Data → List (List ℕ × Data) → List (List ℕ × Data)
-place_members file at level name said members =
-    kind (codes "finding") ∷ (codes "file", readable file) ∷ (codes "line", number_or_null (line_if_any at))
+abbrev pub place_members : List ℕ → ℕ → Option Spot → Level → List ℕ → Data → List (List ℕ × Data) → List (List ℕ × Data)
+place_members file at spot level name said members =
+    kind (codes "finding") ∷ (codes "file", readable file) ∷ (codes "line", number_or_null (line_if_any (told_line at spot)))
+    ∷ (codes "column", number_or_null (option_map (λ s. s.column) spot)) ∷ (codes "length", number_or_null (option_map (λ s. s.len) spot))
     ∷ (codes "level", string (level_name level)) ∷ (codes "number", string (before_first is_space name))
     ∷ (codes "name", string (after_first is_space name)) ∷ (codes "sentence", said) ∷ members
 
@@ -113,7 +115,7 @@ stack_members service type services met answers =
 
 abbrev pub finding_members : Names → Place → Finding → Option MisspelledText → List (List ℕ × Data)
 finding_members names place finding word =
-    place_members (path_of names.paths place.file) place.line (level_of finding.problem) (problem_name finding.problem)
+    place_members (path_of names.paths place.file) place.line (spot_of word) (level_of finding.problem) (problem_name finding.problem)
     (joined (said_parts place.line finding.problem word))
     (stack_members (option_map (text_at names.services) (service_of finding.problem)) (option_map (λ stack. stack.1) (stack_of finding.problem))
     names.services (met_unless finding.met (service_of finding.problem)) (answers_array names.ways_in finding.met finding.problem))
@@ -126,7 +128,7 @@ abbrev pub no_stack_members : List (List ℕ × Data)
 no_stack_members = stack_members None None [] None (array no_items)
 
 unfoldable pub other_json : List ℕ → ℕ → Level → List ℕ → Data → List ℕ
-other_json file at level name said = line (place_members file at level name said no_stack_members)
+other_json file at level name said = line (place_members file at None level name said no_stack_members)
 
 -- that of a problem of a table
 abbrev pub table_json : TablePathsText → TableFinding → List ℕ
@@ -134,9 +136,10 @@ table_json paths finding =
     other_json (path_of_table paths finding.table finding.number) finding.line (level_of_table_problem finding.problem) (table_problem_name finding.problem)
     (joined (table_parts finding.problem))
 
--- that of a line of the accept file that accepts nothing
-abbrev pub unused_json : List ℕ → ℕ → List ℕ
-unused_json accept at = other_json accept at Warning (codes "S8 NothingAccepted") (string unused_sentence)
+-- that of a line that says nothing of the host
+abbrev pub unused_json : List ℕ → UnusedText → List ℕ
+unused_json file unused =
+    other_json file (number_of_unused unused) (level_of_unused unused) (codes "S8 UnusedLine") (joined (unused_parts unused))
 
 -- THE LAST LINE
 abbrev pub checked_members : ℕ → Counts → List (List ℕ × Data)
@@ -152,7 +155,7 @@ checked_json services counts = line (checked_members services counts)
 abbrev pub line_json : Line → List ℕ
 line_json (Found names entry word) = finding_json names entry.0 entry.1 word
 line_json (InTable paths finding) = table_json paths finding
-line_json (Unused accept at) = unused_json accept at
+line_json (Unused file unused) = unused_json file unused
 line_json (Last services counts) = checked_json services counts
 
 -- THE JSON of `check`: which lines come, in which order, says `check_lines`

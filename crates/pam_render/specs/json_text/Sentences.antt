@@ -13,8 +13,10 @@ use Rattle.pam_released.specs.declared.tables.difference.TableDifference.TheVari
 use Rattle.pam_released.specs.Meanings.{meaning_of, mending_of}
 use Rattle.pam_released.specs.declared.difference.Difference.{Difference}
 use Rattle.pam_report.specs.Names.{kind_name, stack_of}
+use Rattle.pam_report.specs.Unused.{OfAccept, OfFacts, UnusedText}
 use Rattle.pam_render.specs.sentences.Faults.{Naming, naming_of, plain_sentence}
-use Rattle.pam_render.specs.sentences.Sentences.{argument_naming, module_naming, problem_sentence}
+use Rattle.pam_render.specs.sentences.Sentences.{argument_naming, idle_naming, module_naming, problem_sentence, unused_sentence}
+use Rattle.pam_render.specs.sentences.Shown.{hidden_text}
 use Rattle.pam_render.specs.sentences.Tables.{table_fault_sentence, time_fault_sentence}
 use Rattle.pam_findings.specs.declared.tables.problem.TableProblem.{TableProblem}
 use Rattle.pam_findings.specs.declared.tables.problem.TableProblem.TheVariants as wrong
@@ -26,7 +28,8 @@ mending_parts (Some right) mending = codes "; did you mean \"" ∷ right ∷ cod
 
 abbrev pub naming_parts : MisspelledText → Naming → List (List ℕ)
 naming_parts misspelled naming =
-    misspelled.of ∷ naming.before ∷ codes "\"" ∷ misspelled.word ∷ codes "\"" ∷ naming.after ∷ mending_parts misspelled.nearest naming.mending
+    misspelled.of ∷ naming.before ∷ codes "\"" ∷ misspelled.word ∷ codes "\"" ∷ naming.after ∷ hidden_text misspelled.word
+    ∷ mending_parts misspelled.nearest naming.mending
 
 -- of a fault at a line, with the word that is wrong if it is known
 abbrev pub fault_parts : ℕ → FaultKind → Option MisspelledText → List (List ℕ)
@@ -73,3 +76,8 @@ abbrev pub table_parts : TableProblem → List (List ℕ)
 table_parts (wrong.Fault fault) = table_fault_sentence fault ∷ []
 table_parts (wrong.TimeFault fault) = time_fault_sentence fault ∷ []
 table_parts (wrong.Released difference) = table_difference_parts difference
+
+-- of a line that says nothing of the host
+abbrev pub unused_parts : UnusedText → List (List ℕ)
+unused_parts (OfAccept line) = unused_sentence ∷ []
+unused_parts (OfFacts line name) = naming_parts name idle_naming

@@ -1,5 +1,6 @@
 -- What a check tells of services, files and numbers of findings.
-use Rattle.std.specs.Prelude.{ℕ, ◌+◌, ◌*◌, Bool, true, false, List, [], count_by, length, min, Option, None, Some, slice_get, unwrap_or}
+use Rattle.std.specs.Prelude.{ℕ, ◌+◌, ◌*◌, Bool, true, false, List, [], count_by, min, Option, None, Some, slice_get, unwrap_or}
+use Rattle.std.specs.Option.{option_and_then}
 use Rattle.pam_conf.specs.declared.rule.Form.{Form}
 use Rattle.pam_findings.specs.host.Levels.{level_of}
 use Rattle.pam_findings.specs.declared.host.level.Level.{Level}
@@ -8,8 +9,10 @@ use Rattle.pam_findings.specs.declared.host.problem.Place.{Place}
 use Rattle.pam_findings.specs.declared.host.report.Finding.{Finding}
 use Rattle.pam_findings.specs.declared.host.way_in.WayIn.{WayIn}
 use Rattle.pam_findings.specs.misspelled.Misspelled.{MisspelledText}
+use Rattle.pam_findings.specs.declared.misspelled.spot.Spot.{Spot}
 use Rattle.pam_report.specs.Reply.{CheckValue}
 use Rattle.pam_report.specs.TablePaths.{level_of_table_problem}
+use Rattle.pam_report.specs.Unused.{UnusedText, level_of_unused}
 use Rattle.pam_findings.specs.declared.tables.problem.TableFinding.{TableFinding}
 use Rattle.pam_render.specs.declared.parts.check.Counts.{Counts}
 
@@ -38,6 +41,17 @@ path_of paths (Some file) = text_at paths (file + 1)
 abbrev pub word_at : List (Option MisspelledText) → ℕ → Option MisspelledText
 word_at words position = unwrap_or (slice_get words position) None
 
+-- WHERE A WORD STANDS
+
+-- the spot of a word, if there is one and it is known
+abbrev pub spot_of : Option MisspelledText → Option Spot
+spot_of word = option_and_then (λ m. m.spot) word
+
+-- the line that is told: that of the word, which need not be the first of its rule
+abbrev pub told_line : ℕ → Option Spot → ℕ
+told_line at None = at
+told_line at (Some spot) = spot.line
+
 -- NUMBERS
 
 abbrev pub is_level : Level → Level → Bool
@@ -58,12 +72,20 @@ at_most count = min count 18446744073709551615
 abbrev pub table_number_at : Level → List TableFinding → ℕ
 table_number_at level tables = count_by (λ finding. is_level (level_of_table_problem finding.problem) level) tables
 
--- the numbers of findings and problems of tables of each level; a line of the accept file that accepts nothing is a warning (S8)
-abbrev pub counts_of : List (Place × Finding) → List TableFinding → List ℕ → Counts
+-- the number of lines of a level that say nothing of the host
+abbrev pub unused_number_at : Level → List UnusedText → ℕ
+unused_number_at level unused = count_by (λ line. is_level (level_of_unused line) level) unused
+
+-- the number of findings, problems of tables and such lines of a level, and those of each level
+abbrev pub number_of : List (Place × Finding) → List TableFinding → List UnusedText → Level → ℕ
+number_of found tables unused level =
+    at_most (at_most (number_at level found + table_number_at level tables) + unused_number_at level unused)
+
+abbrev pub counts_of : List (Place × Finding) → List TableFinding → List UnusedText → Counts
 counts_of found tables unused = record {
-  errors = at_most (number_at levels.Error found + table_number_at levels.Error tables);
-  warnings = at_most (at_most (number_at levels.Warning found + table_number_at levels.Warning tables) + length unused);
-  notes = at_most (number_at levels.Note found + table_number_at levels.Note tables);
+  errors = number_of found tables unused levels.Error;
+  warnings = number_of found tables unused levels.Warning;
+  notes = number_of found tables unused levels.Note;
 }
 
 -- the stacks of services, one for each of the four kinds

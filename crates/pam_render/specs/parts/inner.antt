@@ -1,3 +1,4 @@
 -- What no public contract cites.
+pub mod Lines
 pub mod ModulePaths
 pub mod Told

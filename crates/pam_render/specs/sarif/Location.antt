@@ -1,8 +1,10 @@
--- Where a finding is: a file as a URI reference (RFC 3986), and the line in it.
-use Rattle.std.specs.Prelude.{ℕ, ◌+◌, ◌/◌, ◌%◌, ◌==◌, ◌||◌, nat_eq, nat_lt, Bool, List, [], ◌∷◌, ◌++◌, codes, if◌then◌else◌}
+-- Where a finding is: a file as a URI reference (RFC 3986), the line in it, and the columns of a word.
+use Rattle.std.specs.Prelude.{ℕ, ◌+◌, ◌/◌, ◌%◌, ◌==◌, ◌||◌, nat_eq, nat_lt, Bool, List, [], ◌∷◌, ◌++◌, codes, if◌then◌else◌, Option, None, Some}
 use Rattle.std.specs.Char.{is_ascii_alphanumeric}
 use Rattle.std.specs.List.{flat_map, list_any, starts_with}
+use Rattle.pam_findings.specs.declared.misspelled.spot.Spot.{Spot}
 use Rattle.pam_render.specs.json_lines.Line.{items_of, members_of}
+use Rattle.pam_render.specs.parts.Check.{at_most}
 use Rattle.serde_json.specs.Data.{Data, array, number, object, string, unsigned}
 
 -- what stands for itself: letters, digits, what a URI does not reserve, and the slash between names
@@ -28,19 +30,29 @@ uri_of path = scheme_of path ++ flat_map uri_byte path
 abbrev pub artifact_object : List ℕ → Data
 artifact_object path = object (members_of ((codes "uri", string (uri_of path)) ∷ []))
 
-abbrev pub region_object : ℕ → Data
-region_object at = object (members_of ((codes "startLine", number (unsigned at)) ∷ []))
+-- the column after the last byte of a word
+abbrev pub end_column : Spot → ℕ
+end_column spot = at_most (spot.column + spot.len)
+
+abbrev pub region_members : ℕ → Option Spot → List (List ℕ × Data)
+region_members at None = (codes "startLine", number (unsigned at)) ∷ []
+region_members at (Some spot) =
+    (codes "startLine", number (unsigned spot.line)) ∷ (codes "startColumn", number (unsigned spot.column))
+    ∷ (codes "endColumn", number (unsigned (end_column spot))) ∷ []
+
+abbrev pub region_object : ℕ → Option Spot → Data
+region_object at spot = object (members_of (region_members at spot))
 
 -- a file as a whole has no line
-abbrev pub region_if_any : ℕ → List (List ℕ × Data)
-region_if_any at = if at == 0 then [] else (codes "region", region_object at) ∷ []
+abbrev pub region_if_any : ℕ → Option Spot → List (List ℕ × Data)
+region_if_any at spot = if at == 0 then [] else (codes "region", region_object at spot) ∷ []
 
-abbrev pub physical_object : List ℕ → ℕ → Data
-physical_object path at = object (members_of ((codes "artifactLocation", artifact_object path) ∷ region_if_any at))
+abbrev pub physical_object : List ℕ → ℕ → Option Spot → Data
+physical_object path at spot = object (members_of ((codes "artifactLocation", artifact_object path) ∷ region_if_any at spot))
 
-abbrev pub location_object : List ℕ → ℕ → Data
-location_object path at = object (members_of ((codes "physicalLocation", physical_object path at) ∷ []))
+abbrev pub location_object : List ℕ → ℕ → Option Spot → Data
+location_object path at spot = object (members_of ((codes "physicalLocation", physical_object path at spot) ∷ []))
 
--- THE LOCATIONS of a finding
-abbrev pub locations_array : List ℕ → ℕ → Data
-locations_array path at = array (items_of (location_object path at ∷ []))
+-- THE LOCATIONS of a finding: the word that it is about, if there is one, or its line
+abbrev pub locations_array : List ℕ → ℕ → Option Spot → Data
+locations_array path at spot = array (items_of (location_object path at spot ∷ []))

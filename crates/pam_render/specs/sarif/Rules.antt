@@ -18,11 +18,11 @@ text_object text = object (members_of ((codes "text", text) ∷ []))
 abbrev pub number_of : List ℕ → List ℕ
 number_of name = before_first is_space name
 
--- a line of the accept file that accepts nothing
+-- a line that says nothing of the host
 abbrev pub unused_name : List ℕ
-unused_name = codes "S8 NothingAccepted"
+unused_name = codes "S8 UnusedLine"
 
--- a finding, a problem of a table, or a line of the accept file has the number
+-- a finding, a problem of a table, or such a line has the number
 abbrev pub is_found : CheckValue → List ℕ → Bool
 is_found value number =
     list_any (λ entry. bytes_eq (number_of (problem_name entry.1.problem)) number) value.found

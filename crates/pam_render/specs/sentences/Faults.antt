@@ -6,7 +6,7 @@ use Rattle.pam_codes.specs.declared.error.ControlError.TheVariants.{BadControl, 
 use Rattle.pam_conf.specs.declared.error.FaultKind.{FaultKind}
 use Rattle.pam_conf.specs.declared.error.FaultKind.TheVariants as faults
 use Rattle.pam_findings.specs.misspelled.Misspelled.{MisspelledText}
-use Rattle.pam_render.specs.sentences.Shown.{quoted, shown_name}
+use Rattle.pam_render.specs.sentences.Shown.{hidden_text, quoted, shown_name}
 
 -- WHERE THE WRONG WORD IS NOT KNOWN
 
@@ -77,8 +77,13 @@ abbrev pub mending_text : Option (List ℕ) → List ℕ → List ℕ
 mending_text None mending = codes "; " ++ mending
 mending_text (Some right) mending = codes "; did you mean " ++ quoted right ++ codes "?"
 
+-- what is said after the word, and which hidden character it has
+abbrev pub after_text : List ℕ → List ℕ → List ℕ
+after_text after word = after ++ hidden_text word
+
 abbrev pub named_text : MisspelledText → Naming → List ℕ
-named_text misspelled naming = naming.before ++ quoted misspelled.word ++ naming.after ++ mending_text misspelled.nearest naming.mending
+named_text misspelled naming =
+    naming.before ++ quoted misspelled.word ++ after_text naming.after misspelled.word ++ mending_text misspelled.nearest naming.mending
 
 -- a wrong argument comes after the name of its module
 abbrev pub naming_text : MisspelledText → Naming → List ℕ

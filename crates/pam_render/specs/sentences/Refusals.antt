@@ -77,9 +77,6 @@ moment_sentence moment.Syntax = codes "the value of --at is no date and time tha
 abbrev pub states_sentence : List ℕ
 states_sentence = codes "a run of the stack can be at more than 65,536 places; say what modules can answer, with --set or --returns"
 
-abbrev pub key_sentence : List ℕ
-key_sentence = codes "a KEY of --set names no module, or its CODES leave no code; write the name of a module as pam_unix.so, with its ending"
-
 -- THE SENTENCE, or nothing where the line of the fault says all
 unfoldable pub refusal_sentence : Fault → List ℕ
 refusal_sentence (faults.Conf e) = conf_sentence e.line e.kind
@@ -90,5 +87,4 @@ refusal_sentence (faults.Policy e) = policy_sentence e.error.fault
 refusal_sentence (faults.Accept e) = accept_sentence e
 refusal_sentence (faults.Moment e) = moment_sentence e
 refusal_sentence faults.TooManyStates = states_sentence
-refusal_sentence faults.NoSuchKey = key_sentence
 refusal_sentence fault = []

@@ -2,12 +2,14 @@
 use Rattle.std.specs.Prelude.{ℕ, Bool, true, false, ◌||◌, List, [], ◌++◌, codes, if◌then◌else◌, nat_eq, Option, None, Some}
 use Rattle.std.specs.List.{ends_with}
 use Rattle.std.specs.Str.{bytes_eq}
-use Rattle.pam_arguments.specs.declared.lacks.Lack.{Lack}
-use Rattle.pam_arguments.specs.declared.lacks.Lack.TheVariants as lacks
-use Rattle.pam_arguments.specs.declared.verdict.Reaction.{Reaction}
-use Rattle.pam_arguments.specs.declared.verdict.Reaction.TheVariants.{Fails, Ignores, Logs}
+use Rattle.pam_facts.specs.declared.arguments.lacks.Lack.{Lack}
+use Rattle.pam_facts.specs.declared.arguments.lacks.Lack.TheVariants as lacks
+use Rattle.pam_facts.specs.declared.arguments.verdict.Reaction.{Reaction}
+use Rattle.pam_facts.specs.declared.arguments.verdict.Reaction.TheVariants.{Fails, Ignores, Logs}
 use Rattle.pam_findings.specs.declared.host.level.Level.{Level}
 use Rattle.pam_findings.specs.declared.host.level.Level.TheVariants.{Error, Note, Warning}
+use Rattle.pam_findings.specs.declared.host.missing_files.Absence.{Absence}
+use Rattle.pam_findings.specs.declared.host.missing_files.Absence.TheVariants as absences
 use Rattle.pam_findings.specs.declared.host.problem.ArgumentProblem.{ArgumentProblem}
 use Rattle.pam_findings.specs.declared.host.problem.ArgumentProblem.TheVariants as arguments
 use Rattle.pam_findings.specs.declared.host.problem.Problem.{Problem}
@@ -18,6 +20,7 @@ use Rattle.pam_findings.specs.misspelled.Misspelled.{MisspelledText}
 use Rattle.pam_released.specs.declared.tables.difference.TableDifference.TheVariants.{EmptySeparator}
 use Rattle.pam_released.specs.Meanings.{meaning_of, mending_of}
 use Rattle.pam_released.specs.declared.difference.Difference.{Difference}
+use Rattle.pam_report.specs.Unused.{OfAccept, OfFacts, UnusedText}
 use Rattle.pam_render.specs.sentences.Faults.{Naming, fault_text, naming_text}
 use Rattle.pam_render.specs.sentences.Tables.{table_difference_sentence}
 
@@ -153,7 +156,7 @@ vain_sentence =
 abbrev pub link_sentence : List ℕ
 link_sentence = codes "the file is a link that leads out of the folder, so none of its words are shown; copy the file here, if it belongs here"
 
--- S15 to S18, S20 and S23, where the argument is not known
+-- S15 to S18, S20, S23 and S24, where the argument is not known
 abbrev pub argument_sentence : List ℕ
 argument_sentence = codes "an argument is not one that the module takes; mend it, or remove it"
 
@@ -171,6 +174,11 @@ unknown_after Logs = []
 abbrev pub unknown_mending : List ℕ → List ℕ
 unknown_mending word = if is_of_rule word then codes "put a line feed before the next rule" else codes "mend it, or remove it"
 
+-- what a module does without the file of an argument
+abbrev pub without_file : Absence → List ℕ
+without_file absences.Fails = codes ", so it always fails"
+without_file absences.Passes = codes ", so it lets pass whoever asks"
+
 -- the text before the argument, which comes after the name of the module, and after it, and how to mend it if no argument is near
 unfoldable pub argument_naming : ArgumentProblem → List ℕ → Naming
 argument_naming (arguments.Unknown reaction) word =
@@ -187,6 +195,8 @@ argument_naming arguments.NoToken word = record {
 }
 argument_naming arguments.Weak word =
     record { before = codes " stores passwords by a weak hash with "; after = []; mending = codes "write yescrypt in its place" }
+argument_naming (arguments.MissingFile absence) word =
+    record { before = codes " does not find the file of "; after = without_file absence; mending = codes "make the file, or mend its path" }
 
 -- with the argument if it is known
 abbrev pub argument_text : ArgumentProblem → Option MisspelledText → List ℕ
@@ -205,6 +215,18 @@ lack_sentence lacks.Condition =
 -- S8: a line of the accept file that accepts nothing
 abbrev pub unused_sentence : List ℕ
 unused_sentence = codes "no finding has this number and place; remove the line, or mend it"
+
+-- S8: a row of the facts file about a module that no rule calls, and that is not there
+unfoldable pub idle_naming : Naming
+idle_naming = record {
+  before = codes "no rule calls ";
+  after = codes ", and no folder of modules has it";
+  mending = codes "mend the name, or remove the line";
+}
+
+abbrev pub unused_said : UnusedText → List ℕ
+unused_said (OfAccept line) = unused_sentence
+unused_said (OfFacts line name) = naming_text name idle_naming
 
 -- of a problem that is neither a fault nor a difference
 unfoldable pub problem_sentence : Problem → List ℕ

@@ -44,6 +44,33 @@ hidden_len bytes =
     else if is_hidden (three_bytes (slice_index_or bytes 0 0) (slice_index_or bytes 1 0) (slice_index_or bytes 2 0)) then 3
     else 0
 
+-- the hidden character at the front, or 0 where there is none, and the first one of a word
+abbrev pub hidden_at : List ℕ → ℕ
+hidden_at bytes =
+    if is_hidden (two_bytes (slice_index_or bytes 0 0) (slice_index_or bytes 1 0)) then two_bytes (slice_index_or bytes 0 0) (slice_index_or bytes 1 0)
+    else if is_hidden (three_bytes (slice_index_or bytes 0 0) (slice_index_or bytes 1 0) (slice_index_or bytes 2 0))
+    then three_bytes (slice_index_or bytes 0 0) (slice_index_or bytes 1 0) (slice_index_or bytes 2 0)
+    else 0
+
+unfoldable pub first_hidden : List ℕ → ℕ
+first_hidden [] = 0
+first_hidden (byte ∷ rest) = if hidden_at (byte ∷ rest) == 0 then first_hidden rest else hidden_at (byte ∷ rest)
+
+-- what it is
+unfoldable pub hidden_name : ℕ → List ℕ
+hidden_name character =
+    if character == 65279 then codes ": the word has a byte order mark"
+    else if character == 160 then codes ": the word has a no-break space"
+    else if character == 8203 then codes ": the word has a zero-width space"
+    else if character == 8204 then codes ": the word has a zero-width non-joiner"
+    else if character == 8205 then codes ": the word has a zero-width joiner"
+    else if character == 173 then codes ": the word has a soft hyphen"
+    else codes ": the word has a character that cannot be seen"
+
+-- WHAT IS SAID of a word with a hidden character, after what is wrong with it
+abbrev pub hidden_text : List ℕ → List ℕ
+hidden_text word = if first_hidden word == 0 then [] else hidden_name (first_hidden word)
+
 -- whether a byte is shown by its number; the number given is that of the bytes, from this one on, of a hidden character
 abbrev pub is_numbered : ℕ → ℕ → Bool
 is_numbered hidden byte = is_escaped byte || nat_lt 0 hidden

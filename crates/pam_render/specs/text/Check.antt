@@ -1,7 +1,7 @@
 -- The text of `check`: a line for each finding, and a last line with their numbers.
 use Rattle.std.specs.Prelude.{ℕ, ◌-◌, ◌==◌, ◌&&◌, ◌||◌, nat_lt, Bool, false, List, [], ◌∷◌, ◌++◌, codes}
 use Rattle.std.specs.Prelude.{decimal, if◌then◌else◌, Option, None, Some, slice_index_or}
-use Rattle.std.specs.List.{flat_map}
+use Rattle.std.specs.List.{concat, flat_map}
 use Rattle.std.specs.Option.{option_map_or}
 use Rattle.std.specs.Str.{bytes_eq}
 use Rattle.pam_codes.specs.SetText.{name_of}
@@ -20,13 +20,15 @@ use Rattle.pam_findings.specs.declared.host.way_in.Answered.{Answered}
 use Rattle.pam_findings.specs.declared.host.way_in.WayIn.{WayIn}
 use Rattle.pam_facts.specs.known.Answers.{name_of_path}
 use Rattle.pam_findings.specs.misspelled.Misspelled.{MisspelledText}
-use Rattle.pam_render.specs.parts.Check.{Names, path_of, stacks_of, text_at}
+use Rattle.pam_findings.specs.declared.misspelled.spot.Spot.{Spot}
+use Rattle.pam_render.specs.parts.Check.{Names, path_of, spot_of, stacks_of, text_at}
 use Rattle.pam_render.specs.parts.Findings.{Found, InTable, Last, Line, Unused, check_lines}
 use Rattle.pam_render.specs.declared.parts.check.Counts.{Counts}
 use Rattle.pam_report.specs.Decide.{path_at}
 use Rattle.pam_report.specs.Names.{problem_name, stack_of}
 use Rattle.pam_report.specs.Reply.{CheckValue}
 use Rattle.pam_report.specs.TablePaths.{TablePathsText, level_of_table_problem, path_of as path_of_table, table_problem_name}
+use Rattle.pam_report.specs.Unused.{UnusedText, level_of_unused, number_of_unused}
 use Rattle.pam_findings.specs.declared.tables.problem.TableFinding.{TableFinding}
 use Rattle.pam_render.specs.text.Header.{kind_name}
 use Rattle.pam_render.specs.sentences.Sentences as say
@@ -39,9 +41,14 @@ use Rattle.pam_render.specs.sentences.Tables.{table_sentence}
 abbrev pub number_text : ℕ → List ℕ
 number_text line = if line == 0 then [] else codes ":" ++ decimal line
 
--- `PATH:LINE: `
-unfoldable pub place_text : List (List ℕ) → Place → List ℕ
-place_text paths place = shown_name (path_of paths place.file) ++ number_text place.line ++ codes ": "
+-- where a word begins, or of no word the line of the finding
+abbrev pub where_text : ℕ → Option Spot → List ℕ
+where_text line None = number_text line
+where_text line (Some spot) = concat (codes ":" ∷ decimal spot.line ∷ codes ":" ∷ decimal spot.column ∷ [])
+
+-- `PATH:LINE: `, or `PATH:LINE:COLUMN: ` where a word begins
+unfoldable pub place_text : List (List ℕ) → Place → Option Spot → List ℕ
+place_text paths place spot = shown_name (path_of paths place.file) ++ where_text place.line spot ++ codes ": "
 
 -- THE STACKS THAT MEET IT
 
@@ -151,7 +158,7 @@ sentence names place met problem word =
 -- A LINE: `PLACE: LEVEL: NUMBER NAME: SENTENCE`
 unfoldable pub finding_line : Names → Place × Finding → Option MisspelledText → List ℕ
 finding_line names entry word =
-    place_text names.paths entry.0 ++ say.level_name (level_of entry.1.problem) ++ codes ": " ++ problem_name entry.1.problem ++ codes ": "
+    place_text names.paths entry.0 (spot_of word) ++ say.level_name (level_of entry.1.problem) ++ codes ": " ++ problem_name entry.1.problem ++ codes ": "
     ++ sentence names entry.0 entry.1.met entry.1.problem word ++ codes "\n"
 
 -- A LINE FOR A PROBLEM OF A TABLE: `PATH:LINE: LEVEL: NUMBER NAME: SENTENCE`
@@ -185,15 +192,20 @@ checked_line count name stacks counts =
 abbrev pub last_line : ℕ → Counts → List ℕ
 last_line services counts = checked_line services (codes "service") (stacks_of services) counts
 
--- `FILE:LINE: warning: S8 NothingAccepted: SENTENCE`
-unfoldable pub unused_line : List ℕ → ℕ → List ℕ
-unused_line accept line = shown_name accept ++ codes ":" ++ decimal line ++ codes ": warning: S8 NothingAccepted: " ++ say.unused_sentence ++ codes "\n"
+-- `:LINE: LEVEL: S8 UnusedLine: `
+abbrev pub unused_heading : UnusedText → List ℕ
+unused_heading unused =
+    codes ":" ++ decimal (number_of_unused unused) ++ codes ": " ++ say.level_name (level_of_unused unused) ++ codes ": S8 UnusedLine: "
+
+-- A LINE THAT SAYS NOTHING of the host: `FILE:LINE: LEVEL: S8 UnusedLine: SENTENCE`
+unfoldable pub unused_line : List ℕ → UnusedText → List ℕ
+unused_line file unused = shown_name file ++ unused_heading unused ++ say.unused_said unused ++ codes "\n"
 
 -- ONE LINE
 abbrev pub line_text : Line → List ℕ
 line_text (Found names entry word) = finding_line names entry word
 line_text (InTable paths finding) = table_line paths finding
-line_text (Unused accept line) = unused_line accept line
+line_text (Unused file unused) = unused_line file unused
 line_text (Last services counts) = last_line services counts
 
 -- THE TEXT of `check`: which lines come, in which order, says `check_lines`

@@ -3,7 +3,7 @@ use Rattle.std.specs.Prelude.{◌≡◌, ℕ, Bool, true, false, List, Result, O
 use Rattle.pam_paths.specs.declared.cursor.CursorError.{CursorError}
 use Rattle.pam_report.specs.Reply.{Reply, Stacks, Released, Run, Access, Time, Outcomes, Drawing, Page, Check, Compared, Policy, Needs, Explained, Explanations}
 use Rattle.pam_report.specs.Reply.{Facts, Version}
-use Rattle.pam_facts.specs.Table.{table_text}
+use Rattle.pam_facts.specs.Table.{facts_text}
 use Rattle.pam_render.specs.json_text.Text.{IsJson, has_json}
 use Rattle.pam_words.specs.declared.wanted.OutputForm.{OutputForm}
 use Rattle.pam_words.specs.declared.wanted.OutputForm.TheVariants.{Json, PlainText, Sarif}
@@ -38,7 +38,7 @@ IsText (Policy policies) text = text ≡ Ok (policy_text policies)
 IsText (Needs found) text = text ≡ Ok (needs_text found)
 IsText (Explained explanation) text = text ≡ Ok (explanation_text explanation)
 IsText Explanations text = text ≡ Ok explanations_text
-IsText Facts text = text ≡ Ok table_text
+IsText Facts text = text ≡ Ok facts_text
 IsText Version text = text ≡ Ok version_text
 
 -- the JSON of a reply, or its text if it has none

@@ -40,7 +40,7 @@ impl CheckLines for AsJson {
         match content {
             CheckLine::Found(found) => put_finding(found, out),
             CheckLine::InTable { paths, finding } => put_table_finding(paths, finding, out),
-            CheckLine::Unused { accept, line } => put_unused(accept, line, out),
+            CheckLine::Unused { file, line } => put_unused(file, line, out),
             CheckLine::Last { services, counts } => put_checked(services, counts, out),
         }
     }

@@ -1,18 +1,19 @@
 //! What a check says of services, files and numbers of findings.
 
-ghost use Rattle.std.specs.Prelude.{◌≡◌, ◌+◌, [], IfOk, map};
+ghost use Rattle.std.specs.Prelude.{◌≡◌, [], IfOk, count_by, map};
 ghost use Rattle.std.specs.Option.{option_map, option_map_or};
 ghost use Rattle.pam_findings.specs.misspelled.MisspelledView.{misspelled_view};
 ghost use Rattle.pam_report.specs.ReplyViews.{check_view};
-ghost use Rattle.pam_render.specs.parts.Check.{at_most, counts_of, is_level, names_of_value, number_at, path_of, stacks_of, table_number_at, text_at};
-ghost use Rattle.pam_render.specs.parts.Check.{word_at};
+ghost use Rattle.pam_report.specs.Unused.{level_of_unused, unused_view};
+ghost use Rattle.pam_render.specs.parts.Check.{counts_of, is_level, names_of_value, number_at, number_of, path_of, stacks_of, table_number_at, text_at};
+ghost use Rattle.pam_render.specs.parts.Check.{spot_of, told_line, unused_number_at, word_at};
 ghost use Rattle.pam_render.specs.parts.CheckNames.{names_view, word_of};
 
 use pam_conf::Form;
 use pam_findings::host::{Finding, Level, Place, WayIn};
-use pam_findings::misspelled::Misspelled;
+use pam_findings::misspelled::{Misspelled, Spot};
 use pam_findings::tables::TableFinding;
-use pam_report::{CheckReply, table_problem_level};
+use pam_report::{CheckReply, UnusedLine, table_problem_level};
 use pam_text::Texts;
 use std::alloc::{AllocError, Global};
 
@@ -103,6 +104,26 @@ pub fn word_at(words: &[Option<Misspelled>], position: usize) -> Option<&Misspel
     }
 }
 
+/// Returns the spot of a word, if there is one and it is known.
+pub fn spot_of(word: Option<&Misspelled>) -> Option<Spot>
+    ensures { result ≡ spot_of (word_of word.entry) }
+{
+    match word {
+        Some(word) => word.spot,
+        None => None,
+    }
+}
+
+/// Returns the line that is told: that of the word, which need not be the first of its rule.
+pub fn told_line(line: usize, spot: Option<Spot>) -> usize
+    ensures { result ≡ told_line line spot }
+{
+    match spot {
+        Some(spot) => spot.line,
+        None => line,
+    }
+}
+
 /// Whether a level is another.
 pub(super) fn is_level(level: Level, other: Level) -> bool
     ensures { result ≡ is_level level other }
@@ -130,7 +151,7 @@ fn table_number_at(tables: &[TableFinding], level: Level) -> usize
         .count()
 }
 
-/// The numbers of findings and problems of tables of each level.
+/// The numbers of findings, problems of tables and lines that say nothing of each level.
 #[derive(Clone, Copy)]
 pub struct Counts {
     pub errors: usize,
@@ -138,21 +159,49 @@ pub struct Counts {
     pub notes: usize,
 }
 
-/// Returns the number of findings and problems of tables of a level.
-fn number_of(found: &[(Place, Finding)], tables: &[TableFinding], level: Level) -> usize
-    ensures { result ≡ at_most (number_at level found.now + table_number_at level tables.now) }
+/// Returns the number of lines of a level that say nothing of the host.
+fn lines_at(unused: &[UnusedLine], level: Level) -> usize
+    ensures { result ≡ count_by (λ line. is_level (level_of_unused (unused_view line)) level) unused.now }
 {
-    number_at(found, level).saturating_add(table_number_at(tables, level))
+    unused
+        .iter()
+        .filter(|line| is_level(line.level(), level))
+        .count()
 }
 
-/// Counts by levels. Each line of the accept file that accepts nothing is a warning, S8.
-pub fn counts_of(found: &[(Place, Finding)], tables: &[TableFinding], unused: &[u32]) -> Counts
-    ensures { result ≡ counts_of found.now tables.now unused.now }
+/// The same, by the values of the lines.
+fn unused_number_at(unused: &[UnusedLine], level: Level) -> usize
+    ensures { result ≡ unused_number_at level (map unused_view unused.now) }
+{
+    lines_at(unused, level)
+}
+
+/// Returns the number of findings, problems of tables and lines of a level.
+fn number_of(
+    found: &[(Place, Finding)],
+    tables: &[TableFinding],
+    unused: &[UnusedLine],
+    level: Level,
+) -> usize
+    ensures { result ≡ number_of found.now tables.now (map unused_view unused.now) level }
+{
+    number_at(found, level)
+        .saturating_add(table_number_at(tables, level))
+        .saturating_add(unused_number_at(unused, level))
+}
+
+/// Counts by levels.
+pub fn counts_of(
+    found: &[(Place, Finding)],
+    tables: &[TableFinding],
+    unused: &[UnusedLine],
+) -> Counts
+    ensures { result ≡ counts_of found.now tables.now (map unused_view unused.now) }
 {
     Counts {
-        errors: number_of(found, tables, Level::Error),
-        warnings: number_of(found, tables, Level::Warning).saturating_add(unused.len()),
-        notes: number_of(found, tables, Level::Note),
+        errors: number_of(found, tables, unused, Level::Error),
+        warnings: number_of(found, tables, unused, Level::Warning),
+        notes: number_of(found, tables, unused, Level::Note),
     }
 }
 

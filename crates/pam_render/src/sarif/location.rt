@@ -1,6 +1,6 @@
 //! Where a finding is.
 
-ghost use Rattle.std.specs.Prelude.{◌≡◌, ◌<◌};
+ghost use Rattle.std.specs.Prelude.{◌≡◌, ◌<◌, None, Some};
 ghost use Rattle.std.specs.List.{flat_map};
 ghost use Rattle.json.specs.Print.{escape};
 ghost use Rattle.pam_text.specs.Out.{Writes};
@@ -9,6 +9,7 @@ ghost use Rattle.serde_json.specs.Written.{compact_text};
 ghost use Rattle.pam_render.specs.sarif.Location as spec;
 
 use crate::json_lines::{Member, Written, put_escaped, put_object, put_single};
+use pam_findings::misspelled::Spot;
 use pam_text::{Device, Out};
 use std::io::Write;
 
@@ -93,18 +94,55 @@ fn put_artifact<W: Write>(path: &[u8], out: &mut Out<W>) -> Result<(), Device>
     put_object(&[Member::written("uri", UriValue { path })], out)
 }
 
-fn put_region<W: Write>(line: usize, out: &mut Out<W>) -> Result<(), Device>
-    ensures { Writes W.contents out.old out.new result (compact_text (spec.region_object line)) }
+/// A file, and in it a line, 0 for none, and a word if one is meant.
+#[derive(Clone, Copy)]
+pub(super) struct Located<'x> {
+    pub path: &'x [u8],
+    pub line: usize,
+    pub spot: Option<Spot>,
+}
+
+/// The column after the last byte of a word.
+fn end_column(spot: Spot) -> u64
+    ensures { result ≡ spec.end_column spot }
+{
+    (spot.column as u64).saturating_add(spot.len as u64)
+}
+
+/// Writes a line, as the region of a finding that is about no word.
+fn put_line<W: Write>(line: usize, out: &mut Out<W>) -> Result<(), Device>
+    ensures { Writes W.contents out.old out.new result (compact_text (spec.region_object line None)) }
 {
     let members: [Member<'_, ()>; 1] = [Member::number("startLine", line as u64)];
     put_object(&members, out)
+}
+
+/// Writes the spot of a word, as the region of a finding that is about one.
+fn put_spot<W: Write>(spot: Spot, out: &mut Out<W>) -> Result<(), Device>
+    ensures { Writes W.contents out.old out.new result (compact_text (spec.region_object 0 (Some spot))) }
+{
+    let members: [Member<'_, ()>; 3] = [
+        Member::number("startLine", spot.line as u64),
+        Member::number("startColumn", spot.column as u64),
+        Member::number("endColumn", end_column(spot)),
+    ];
+    put_object(&members, out)
+}
+
+fn put_region<W: Write>(line: usize, spot: Option<Spot>, out: &mut Out<W>) -> Result<(), Device>
+    ensures { Writes W.contents out.old out.new result (compact_text (spec.region_object line spot)) }
+{
+    match spot {
+        Some(spot) => put_spot(spot, out),
+        None => put_line(line, out),
+    }
 }
 
 /// A member of the place in a file.
 #[derive(Clone, Copy)]
 enum PlaceValue<'x> {
     Artifact(&'x [u8]),
-    Region(usize),
+    Region(usize, Option<Spot>),
 }
 
 impl Written for PlaceValue<'_> {
@@ -115,23 +153,24 @@ impl Written for PlaceValue<'_> {
     fn put<W: Write>(&self, out: &mut Out<W>) -> Result<(), Device> {
         match self {
             PlaceValue::Artifact(path) => put_artifact(path, out),
-            PlaceValue::Region(line) => put_region(*line, out),
+            PlaceValue::Region(line, spot) => put_region(*line, *spot, out),
         }
     }
 }
 
-/// Writes the file and the line, but no line for a file as a whole.
-fn put_physical<W: Write>(path: &[u8], line: usize, out: &mut Out<W>) -> Result<(), Device>
-    ensures { Writes W.contents out.old out.new result (compact_text (spec.physical_object path.now line)) }
+/// Writes the file and what is meant in it, which is nothing for a file as a whole.
+fn put_physical<W: Write>(located: Located<'_>, out: &mut Out<W>) -> Result<(), Device>
+    ensures { Writes W.contents out.old out.new result
+        (compact_text (spec.physical_object located.entry.path.now located.entry.line located.entry.spot)) }
 {
-    let artifact = Member::written("artifactLocation", PlaceValue::Artifact(path));
-    if line == 0 {
+    let artifact = Member::written("artifactLocation", PlaceValue::Artifact(located.path));
+    if located.line == 0 {
         return put_object(&[artifact], out);
     }
     put_object(
         &[
             artifact,
-            Member::written("region", PlaceValue::Region(line)),
+            Member::written("region", PlaceValue::Region(located.line, located.spot)),
         ],
         out,
     )
@@ -140,25 +179,25 @@ fn put_physical<W: Write>(path: &[u8], line: usize, out: &mut Out<W>) -> Result<
 /// The place in a file.
 #[derive(Clone, Copy)]
 struct PhysicalValue<'x> {
-    path: &'x [u8],
-    line: usize,
+    located: Located<'x>,
 }
 
 impl Written for PhysicalValue<'_> {
-    ghost use Rattle.pam_render.specs.sarif.Location.{physical_object};
+    ghost use Rattle.pam_render.specs.sarif.inner.Written.{physical_value};
 
-    ghost value = { λ place. physical_object place.path.now place.line };
+    ghost value = { λ place. physical_value place.located };
 
     fn put<W: Write>(&self, out: &mut Out<W>) -> Result<(), Device> {
-        put_physical(self.path, self.line, out)
+        put_physical(self.located, out)
     }
 }
 
-fn put_location<W: Write>(path: &[u8], line: usize, out: &mut Out<W>) -> Result<(), Device>
-    ensures { Writes W.contents out.old out.new result (compact_text (spec.location_object path.now line)) }
+fn put_location<W: Write>(located: Located<'_>, out: &mut Out<W>) -> Result<(), Device>
+    ensures { Writes W.contents out.old out.new result
+        (compact_text (spec.location_object located.entry.path.now located.entry.line located.entry.spot)) }
 {
     put_object(
-        &[Member::written("physicalLocation", PhysicalValue { path, line })],
+        &[Member::written("physicalLocation", PhysicalValue { located })],
         out,
     )
 }
@@ -166,27 +205,23 @@ fn put_location<W: Write>(path: &[u8], line: usize, out: &mut Out<W>) -> Result<
 /// A location.
 #[derive(Clone, Copy)]
 struct LocationValue<'x> {
-    path: &'x [u8],
-    line: usize,
+    located: Located<'x>,
 }
 
 impl Written for LocationValue<'_> {
-    ghost use Rattle.pam_render.specs.sarif.Location.{location_object};
+    ghost use Rattle.pam_render.specs.sarif.inner.Written.{location_value};
 
-    ghost value = { λ place. location_object place.path.now place.line };
+    ghost value = { λ place. location_value place.located };
 
     fn put<W: Write>(&self, out: &mut Out<W>) -> Result<(), Device> {
-        put_location(self.path, self.line, out)
+        put_location(self.located, out)
     }
 }
 
 /// Writes the locations of a finding, of which it has one.
-pub(super) fn put_locations<W: Write>(
-    path: &[u8],
-    line: usize,
-    out: &mut Out<W>,
-) -> Result<(), Device>
-    ensures { Writes W.contents out.old out.new result (compact_text (spec.locations_array path.now line)) }
+pub(super) fn put_locations<W: Write>(located: Located<'_>, out: &mut Out<W>) -> Result<(), Device>
+    ensures { Writes W.contents out.old out.new result
+        (compact_text (spec.locations_array located.entry.path.now located.entry.line located.entry.spot)) }
 {
-    put_single(&LocationValue { path, line }, out)
+    put_single(&LocationValue { located }, out)
 }

@@ -11,19 +11,22 @@ ghost use Rattle.pam_render.specs.sarif.Rules.{text_object};
 ghost use Rattle.pam_render.specs.sarif.inner.Written.{found_text, numbered_text, tables_text, unused_text};
 ghost use Rattle.pam_report.specs.ReplyViews.{check_view};
 ghost use Rattle.pam_report.specs.TablePaths.{table_paths_view};
+ghost use Rattle.pam_report.specs.Unused.{unused_view};
 ghost use Rattle.pam_text.specs.Out.{Writes};
 ghost use Rattle.serde_json.specs.Written.{compact_text};
 
 use crate::json_lines::{Elements, Member, Written, put_comma, put_more, put_object};
 use crate::json_text::{FindingValue, number_in};
-use crate::parts::{FoundProblem, Names, path_of, word_at};
-use crate::sarif::location::put_locations;
+use crate::parts::{FoundProblem, Names, path_of, spot_of, word_at};
+use crate::sarif::location::{Located, put_locations};
 use crate::sarif::rules::UNUSED_NAME;
 use crate::sentences::level_name;
 use pam_findings::host::{Finding, Level, Place};
 use pam_findings::misspelled::Misspelled;
 use pam_findings::tables::TableFinding;
-use pam_report::{CheckReply, TablePaths, problem_name, table_problem_level, table_problem_name};
+use pam_report::{
+    CheckReply, TablePaths, UnusedLine, problem_name, table_problem_level, table_problem_name,
+};
 use pam_text::{Device, Out};
 use std::io::Write;
 
@@ -38,8 +41,8 @@ fn put_message<W: Write>(said: FindingValue<'_>, out: &mut Out<W>) -> Result<(),
 enum ResultValue<'x> {
     /// What is said.
     Message(FindingValue<'x>),
-    /// A file, and a line of it or 0.
-    Locations { path: &'x [u8], line: usize },
+    /// Where it is.
+    Locations(Located<'x>),
 }
 
 impl Written for ResultValue<'_> {
@@ -50,7 +53,7 @@ impl Written for ResultValue<'_> {
     fn put<W: Write>(&self, out: &mut Out<W>) -> Result<(), Device> {
         match self {
             ResultValue::Message(said) => put_message(*said, out),
-            ResultValue::Locations { path, line } => put_locations(path, *line, out),
+            ResultValue::Locations(located) => put_locations(*located, out),
         }
     }
 }
@@ -61,19 +64,19 @@ fn put_result<'x, W: Write>(
     name: &'static str,
     level: Level,
     said: FindingValue<'x>,
-    path: &'x [u8],
-    line: usize,
+    located: Located<'x>,
     out: &mut Out<W>,
 ) -> Result<(), Device>
-    ensures { Writes W.contents out.old out.new result
-        (compact_text (spec.result_object name.now level (finding_value said.entry) path.now line)) }
+    ensures { let place = located.entry in
+        Writes W.contents out.old out.new result
+        (compact_text (spec.result_object name.now level (finding_value said.entry) place.path.now place.line place.spot)) }
 {
     put_object(
         &[
             Member::text("ruleId", number_in(name).as_bytes()),
             Member::text("level", level_name(level).as_bytes()),
             Member::written("message", ResultValue::Message(said)),
-            Member::written("locations", ResultValue::Locations { path, line }),
+            Member::written("locations", ResultValue::Locations(located)),
         ],
         out,
     )
@@ -94,14 +97,12 @@ fn put_finding<W: Write>(found: FoundProblem<'_>, out: &mut Out<W>) -> Result<()
         problem,
         word,
     };
-    put_result(
-        problem_name(problem),
-        problem.level(),
-        said,
-        path_of(names, place.file),
+    let located = Located {
+        path: path_of(names, place.file),
         line,
-        out,
-    )
+        spot: spot_of(word),
+    };
+    put_result(problem_name(problem), problem.level(), said, located, out)
 }
 
 /// Writes the result of the finding at a position, with a comma before it unless it is the first.
@@ -169,37 +170,50 @@ fn put_table_result<W: Write>(
         table_problem_name(problem),
         table_problem_level(problem),
         FindingValue::TableSaid(problem),
-        paths.of(finding.table, finding.number),
-        finding.line as usize,
+        Located {
+            path: paths.of(finding.table, finding.number),
+            line: finding.line as usize,
+            spot: None,
+        },
         out,
     )
 }
 
-/// Writes results of lines of the accept file that accept nothing (S8).
+/// Writes results of lines that say nothing of the host (S8).
 #[derive(Clone, Copy)]
 struct UnusedResults<'x> {
     accept: &'x [u8],
+    facts: &'x [u8],
 }
 
-impl Elements<u32> for UnusedResults<'_> {
+impl Elements<UnusedLine> for UnusedResults<'_> {
     ghost use Rattle.pam_render.specs.sarif.Results.{unused_result};
+    ghost use Rattle.pam_report.specs.Unused.{unused_view};
 
-    ghost element = { λ results line. unused_result results.accept.now line };
+    ghost element = { λ results line. unused_result results.accept.now results.facts.now (unused_view line) };
 
-    fn put_element<W: Write>(&self, line: &u32, out: &mut Out<W>) -> Result<(), Device> {
-        put_unused(self.accept, *line, out)
+    fn put_element<W: Write>(&self, line: &UnusedLine, out: &mut Out<W>) -> Result<(), Device> {
+        put_unused(self.accept, self.facts, line, out)
     }
 }
 
-fn put_unused<W: Write>(accept: &[u8], line: u32, out: &mut Out<W>) -> Result<(), Device>
-    ensures { Writes W.contents out.old out.new result (compact_text (spec.unused_result accept.now line)) }
+fn put_unused<W: Write>(
+    accept: &[u8],
+    facts: &[u8],
+    line: &UnusedLine,
+    out: &mut Out<W>,
+) -> Result<(), Device>
+    ensures { Writes W.contents out.old out.new result (compact_text (spec.unused_result accept.now facts.now (unused_view line.now))) }
 {
     put_result(
         UNUSED_NAME,
-        Level::Warning,
-        FindingValue::Unused,
-        accept,
-        line as usize,
+        line.level(),
+        FindingValue::Unused(line),
+        Located {
+            path: line.file(accept, facts),
+            line: line.number() as usize,
+            spot: None,
+        },
         out,
     )
 }
@@ -230,19 +244,20 @@ fn put_tables<W: Write>(reply: &CheckReply<'_>, out: &mut Out<W>) -> Result<(), 
     )
 }
 
-/// Whether there are results before those of lines of the accept file.
+/// Whether there are results before those of lines that say nothing.
 fn are_before(found: &[(Place, Finding)], tables: &[TableFinding]) -> bool
     ensures { result ≡ (not (length found.now == 0) || not (length tables.now == 0)) }
 {
     !found.is_empty() || !tables.is_empty()
 }
 
-/// Writes the results of lines of the accept file that accept nothing, after the others.
+/// Writes the results of lines that say nothing of the host, after the others.
 fn put_unused_lines<W: Write>(reply: &CheckReply<'_>, out: &mut Out<W>) -> Result<(), Device>
     ensures { Writes W.contents out.old out.new result (unused_text (check_view reply.now)) }
 {
     let results = UnusedResults {
         accept: reply.accept.as_bytes(),
+        facts: reply.facts.as_bytes(),
     };
     put_more(
         &results,

@@ -20,8 +20,8 @@ use pam_report::{CheckReply, problem_name, table_problem_name};
 use pam_text::{Device, Out};
 use std::io::Write;
 
-/// The number and the name of a line of the accept file that accepts nothing.
-pub(super) const UNUSED_NAME: &str = "S8 NothingAccepted";
+/// The number and the name of a line that says nothing of the host.
+pub(super) const UNUSED_NAME: &str = "S8 UnusedLine";
 
 /// Parts of a text, one after another.
 #[derive(Clone, Copy)]

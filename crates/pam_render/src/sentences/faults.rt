@@ -7,7 +7,7 @@ ghost use Rattle.pam_findings.specs.misspelled.MisspelledView.{misspelled_view};
 ghost use Rattle.pam_render.specs.sentences.Faults as spec;
 ghost use Rattle.pam_render.specs.sentences.NamingView.{naming_view};
 
-use crate::sentences::shown::{put_name, put_quoted};
+use crate::sentences::shown::{hidden_text, put_name, put_quoted};
 use pam_codes::{ControlError, Device, Out, Piece};
 use pam_conf::FaultKind;
 use pam_findings::misspelled::Misspelled;
@@ -178,6 +178,16 @@ fn nearest_of(misspelled: &Misspelled) -> Option<&[u8]>
     }
 }
 
+/// Writes what is said after a word, and which hidden character it has.
+fn put_after<W: Write>(after: &str, word: &[u8], out: &mut Out<W>) -> Result<(), Device>
+    ensures { Writes W.contents out.old out.new result (spec.after_text after.now word.now) }
+{
+    out.put_line(&[
+        Piece::Bytes(after.as_bytes()),
+        Piece::Bytes(hidden_text(word).as_bytes()),
+    ])
+}
+
 /// Writes what is wrong with a word, without the module of which it is an argument.
 fn put_named<W: Write>(
     naming: Naming,
@@ -188,7 +198,7 @@ fn put_named<W: Write>(
 {
     out.put(naming.before.as_bytes())?;
     put_quoted(&misspelled.word, out)?;
-    out.put(naming.after.as_bytes())?;
+    put_after(naming.after, &misspelled.word, out)?;
     put_mending(nearest_of(misspelled), naming.mending, out)
 }
 

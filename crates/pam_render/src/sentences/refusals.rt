@@ -151,9 +151,6 @@ pub fn refusal_sentence(fault: &Fault) -> &'static str
         Fault::TooManyStates => {
             "a run of the stack can be at more than 65,536 places; say what modules can answer, with --set or --returns"
         }
-        Fault::NoSuchKey => {
-            "a KEY of --set names no module, or its CODES leave no code; write the name of a module as pam_unix.so, with its ending"
-        }
         _ => "",
     }
 }

@@ -2,7 +2,8 @@
 
 ghost use Rattle.std.specs.Prelude.{◌≡◌, ◌<◌, ◌≤◌, ◌-◌, max, slice_index_or};
 ghost use Rattle.pam_codes.specs.Out.{Writes};
-ghost use Rattle.pam_render.specs.sentences.Shown.{byte_within, hex_digit, hidden_len, is_escaped, is_hidden, is_numbered, name_within, quoted};
+ghost use Rattle.pam_render.specs.sentences.Shown.{byte_within, first_hidden, hex_digit, hidden_at, hidden_len, hidden_name, hidden_text, is_escaped};
+ghost use Rattle.pam_render.specs.sentences.Shown.{is_hidden, is_numbered, name_within, quoted};
 ghost use Rattle.pam_render.specs.sentences.Shown.{shown_byte, shown_bytes, shown_name, shown_word, three_bytes, two_bytes};
 
 use pam_codes::{Device, Out};
@@ -91,6 +92,62 @@ fn hidden_len(bytes: &[u8]) -> usize
         3
     } else {
         0
+    }
+}
+
+/// The hidden character at the front, or 0 where there is none.
+fn hidden_at(bytes: &[u8]) -> u32
+    ensures { result ≡ hidden_at bytes.now }
+{
+    let (first, second) = (byte_at(bytes, 0), byte_at(bytes, 1));
+    let of_two = two_bytes(first, second);
+    if is_hidden(of_two) {
+        return of_two;
+    }
+    let of_three = three_bytes(first, second, byte_at(bytes, 2));
+    if is_hidden(of_three) { of_three } else { 0 }
+}
+
+/// The first hidden character of a word, or 0 where it has none.
+fn first_hidden(word: &[u8]) -> u32
+    ensures { result ≡ first_hidden word.now }
+{
+    let mut left = word;
+    while let Some((_, after)) = left.split_first() {
+        let character = hidden_at(left);
+        if character != 0 {
+            return character;
+        }
+        left = after;
+    }
+    0
+}
+
+/// What is said of a hidden character.
+#[tactic(auto, unfolding(crate::specs::sentences::Shown::hidden_name))]
+fn hidden_name(character: u32) -> &'static str
+    ensures { result.now ≡ hidden_name character }
+{
+    match character {
+        0xfeff => ": the word has a byte order mark",
+        0xa0 => ": the word has a no-break space",
+        0x200b => ": the word has a zero-width space",
+        0x200c => ": the word has a zero-width non-joiner",
+        0x200d => ": the word has a zero-width joiner",
+        0xad => ": the word has a soft hyphen",
+        _ => ": the word has a character that cannot be seen",
+    }
+}
+
+/// What is said of a word with a hidden character, after what is wrong with it; empty for any other word.
+pub(crate) fn hidden_text(word: &[u8]) -> &'static str
+    ensures { result.now ≡ hidden_text word.now }
+{
+    let character = first_hidden(word);
+    if character == 0 {
+        ""
+    } else {
+        hidden_name(character)
     }
 }
 

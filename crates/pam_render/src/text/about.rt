@@ -1,7 +1,7 @@
 //! The texts about the program itself.
 
 ghost use Rattle.pam_codes.specs.Out.{WritesAndFlushes};
-ghost use Rattle.pam_facts.specs.Table.{table_text};
+ghost use Rattle.pam_facts.specs.Table.{facts_text};
 ghost use Rattle.pam_render.specs.text.About.{version_text};
 
 use pam_codes::{Device, Out, Piece};
@@ -11,7 +11,7 @@ use std::io::Write;
 
 /// Writes what is known of modules, in the form of a facts file.
 pub(crate) fn write_known<W: Write>(out: &mut Out<W>) -> Result<(), Device>
-    ensures { WritesAndFlushes W.contents out.old out.new result table_text }
+    ensures { WritesAndFlushes W.contents out.old out.new result facts_text }
 {
     write_facts(out)?;
     out.finish()

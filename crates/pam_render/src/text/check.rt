@@ -1,17 +1,19 @@
 //! The text of `check`: a line for each finding, and a last line with their numbers.
 
 ghost use Rattle.pam_codes.specs.Out.{Writes};
-ghost use Rattle.pam_render.specs.text.Check.{checked_line, counted, last_line, levels_text, unused_line};
+ghost use Rattle.pam_render.specs.text.Check.{checked_line, counted, last_line, levels_text, unused_heading, unused_line};
+ghost use Rattle.pam_report.specs.Unused.{unused_view};
 
 mod finding;
 mod met;
 mod table;
 
 use crate::parts::{CheckLine, CheckLines, Counts, stacks_of};
-use crate::sentences::{UNUSED, put_name};
+use crate::sentences::{level_name, put_name, put_unused_said};
 use crate::text::form::AsText;
 use finding::put_finding;
 use pam_codes::{Device, Out, Piece};
+use pam_report::UnusedLine;
 use std::io::Write;
 use table::put_table_finding;
 
@@ -73,19 +75,28 @@ fn put_last_line<W: Write>(services: usize, counts: Counts, out: &mut Out<W>) ->
     put_checked(services, "service", stacks_of(services), counts, out)
 }
 
-/// Writes S8 of a line of the accept file.
-#[tactic(auto, unfolding(crate::specs::text::Check::unused_line))]
-fn put_unused<W: Write>(accept: &[u8], line: u32, out: &mut Out<W>) -> Result<(), Device>
-    ensures { Writes W.contents out.old out.new result (unused_line accept.now line) }
+/// Writes `:LINE: LEVEL: S8 UnusedLine: `.
+fn put_unused_heading<W: Write>(line: &UnusedLine, out: &mut Out<W>) -> Result<(), Device>
+    ensures { Writes W.contents out.old out.new result (unused_heading (unused_view line.now)) }
 {
-    put_name(accept, out)?;
     out.put_line(&[
         Piece::Bytes(b":"),
-        Piece::Number(u64::from(line)),
-        Piece::Bytes(b": warning: S8 NothingAccepted: "),
-        Piece::Bytes(UNUSED),
-        Piece::Bytes(b"\n"),
+        Piece::Number(u64::from(line.number())),
+        Piece::Bytes(b": "),
+        Piece::Bytes(level_name(line.level()).as_bytes()),
+        Piece::Bytes(b": S8 UnusedLine: "),
     ])
+}
+
+/// Writes S8 of a line of this file.
+#[tactic(auto, unfolding(crate::specs::text::Check::unused_line))]
+fn put_unused<W: Write>(file: &[u8], line: &UnusedLine, out: &mut Out<W>) -> Result<(), Device>
+    ensures { Writes W.contents out.old out.new result (unused_line file.now (unused_view line.now)) }
+{
+    put_name(file, out)?;
+    put_unused_heading(line, out)?;
+    put_unused_said(line, out)?;
+    out.put(b"\n")
 }
 
 impl CheckLines for AsText {
@@ -97,7 +108,7 @@ impl CheckLines for AsText {
         match content {
             CheckLine::Found(found) => put_finding(found, out),
             CheckLine::InTable { paths, finding } => put_table_finding(paths, finding, out),
-            CheckLine::Unused { accept, line } => put_unused(accept, line, out),
+            CheckLine::Unused { file, line } => put_unused(file, line, out),
             CheckLine::Last { services, counts } => put_last_line(services, counts, out),
         }
     }

@@ -7,16 +7,16 @@ use Rattle.pam_codes.specs.ControlText.{control_text}
 use Rattle.pam_render.specs.json_lines.Line.{joined, strings}
 use Rattle.pam_render.specs.parts.Ways.{count_text}
 use Rattle.pam_paths.specs.Steps.{step_seen}
-use Rattle.pam_render.specs.sentences.Sentences.{unused_sentence}
 use Rattle.serde_json.specs.Data.{Data, string}
 use Rattle.pam_policy.specs.needs.Suggestions.{suggestion_view}
 use Rattle.pam_report.specs.ReplyViews.{needs_view, side_files}
+use Rattle.pam_report.specs.Unused.{unused_view}
 use Rattle.pam_render.specs.json_text.Check.{answers_array, services_array, types_array}
 use Rattle.pam_render.specs.json_text.Compare.{arguments_array, fault_if_any, new_modules, old_modules, steps_array as asked_array}
 use Rattle.pam_render.specs.json_text.Needs.{events_array, rule_string}
 use Rattle.pam_render.specs.json_text.Paths.{next_or_null}
 use Rattle.pam_render.specs.json_text.Policy.{sentence_string, stacks_array, steps_array as policy_steps}
-use Rattle.pam_render.specs.json_text.Sentences.{said_parts, table_parts}
+use Rattle.pam_render.specs.json_text.Sentences.{said_parts, table_parts, unused_parts}
 use Rattle.pam_render.specs.json_text.Steps.{cursor_string, steps_array}
 use Rattle.pam_render.specs.declared.json_text.check.values.FindingValue.{FindingValue}
 use Rattle.pam_render.specs.declared.json_text.check.values.FindingValue.TheVariants.{Answers, Said, Services, TableSaid, Types, Unused}
@@ -51,7 +51,7 @@ change_value (AskedSteps pair asked) = asked_array pair.now asked.now
 abbrev pub finding_value : FindingValue → Data
 finding_value (Said line problem word) = joined (said_parts line problem (word_of word))
 finding_value (TableSaid problem) = joined (table_parts problem)
-finding_value Unused = string unused_sentence
+finding_value (Unused line) = joined (unused_parts (unused_view line.now))
 finding_value (Types met) = types_array met
 finding_value (Services services met) = services_array (map (λ service. service.now) services.now) met
 finding_value (Answers ways met problem) = answers_array ways.now met problem

@@ -9,11 +9,12 @@ use Rattle.pam_render.specs.json_text.inner.Written.{finding_value}
 use Rattle.pam_render.specs.parts.Check.{Names}
 use Rattle.pam_render.specs.parts.CheckNames.{names_view}
 use Rattle.pam_render.specs.sarif.Document.{tool_object}
-use Rattle.pam_render.specs.sarif.Location.{artifact_object, locations_array, region_object}
+use Rattle.pam_render.specs.sarif.Location.{artifact_object, location_object, locations_array, physical_object, region_object}
 use Rattle.pam_render.specs.sarif.Results.{numbered_result, results_array, table_result, unused_result}
 use Rattle.pam_render.specs.sarif.Rules.{text_object}
 use Rattle.pam_render.specs.declared.sarif.document.RunValue.{RunValue}
 use Rattle.pam_render.specs.declared.sarif.document.RunValue.TheVariants.{Results, Tool}
+use Rattle.pam_render.specs.declared.sarif.location.Located.{Located}
 use Rattle.pam_render.specs.declared.sarif.location.PlaceValue.{PlaceValue}
 use Rattle.pam_render.specs.declared.sarif.location.PlaceValue.TheVariants.{Artifact, Region}
 use Rattle.pam_render.specs.declared.sarif.results.ResultValue.{ResultValue}
@@ -25,11 +26,17 @@ use Rattle.serde_json.specs.Written.{comma_if, compact_text}
 
 abbrev pub place_value : PlaceValue → Data
 place_value (Artifact path) = artifact_object path.now
-place_value (Region line) = region_object line
+place_value (Region line spot) = region_object line spot
+
+abbrev pub physical_value : Located → Data
+physical_value located = physical_object located.path.now located.line located.spot
+
+abbrev pub location_value : Located → Data
+location_value located = location_object located.path.now located.line located.spot
 
 abbrev pub result_value : ResultValue → Data
 result_value (Message said) = text_object (finding_value said)
-result_value (Locations path line) = locations_array path.now line
+result_value (Locations located) = locations_array located.path.now located.line located.spot
 
 abbrev pub run_value : RunValue → Data
 run_value (Tool reply) = tool_object (check_view reply.now)
@@ -39,7 +46,7 @@ run_value (Results names reply) = results_array (names_view names.now) (check_vi
 abbrev pub numbered_text : Names → List (Option MisspelledText) → ℕ × (Place × Finding) → List ℕ
 numbered_text names words entry = comma_if (nat_lt 0 entry.0) ++ compact_text (numbered_result names words entry)
 
--- the results of findings, those of tables after them, and those of lines of the accept file after both
+-- the results of findings, those of tables after them, and those of lines that say nothing after both
 abbrev pub found_text : Names → CheckValue → List ℕ
 found_text names value = flat_map (numbered_text names value.misspelled) (enumerate_from 0 value.found)
 
@@ -48,4 +55,4 @@ tables_text value = separated (not (length value.found == 0)) (map (table_result
 
 abbrev pub unused_text : CheckValue → List ℕ
 unused_text value =
-    separated (not (length value.found == 0) || not (length value.tables == 0)) (map (unused_result value.accept) value.unused)
+    separated (not (length value.found == 0) || not (length value.tables == 0)) (map (unused_result value.accept value.facts) value.unused)

@@ -1,4 +1,4 @@
-//! A line for a finding, a problem of a table, or a line of the accept file that accepts nothing.
+//! A line for a finding, a problem of a table, or a line that says nothing of the host.
 
 ghost use Rattle.std.specs.Prelude.{◌≡◌};
 ghost use Rattle.std.specs.Option.{option_map};
@@ -6,6 +6,7 @@ ghost use Rattle.pam_codes.specs.Out.{Writes};
 ghost use Rattle.pam_render.specs.parts.Check.{text_at};
 ghost use Rattle.pam_render.specs.parts.CheckNames.{names_view, word_of};
 ghost use Rattle.pam_report.specs.TablePaths.{table_paths_view};
+ghost use Rattle.pam_report.specs.Unused.{unused_view};
 ghost use Rattle.pam_render.specs.json_text.Check.{finding_json, line_if_any, met_unless, other_json, service_count, service_of};
 ghost use Rattle.pam_render.specs.json_text.Check.{services_array, table_json, unused_json};
 ghost use Rattle.pam_render.specs.json_text.Header.{kind_name};
@@ -14,14 +15,16 @@ ghost use Rattle.pam_render.specs.json_text.inner.Written.{finding_value};
 use super::values::FindingValue;
 use crate::json_lines::{Member, put_line};
 use crate::json_text::header::{name_in, number_in};
-use crate::parts::{FoundProblem, Names, path_of, text_at};
+use crate::parts::{FoundProblem, Names, path_of, spot_of, text_at, told_line};
 use crate::sentences::level_name;
 use pam_codes::{Device, Out};
 use pam_conf::Kind;
 use pam_findings::host::{Level, Met, Problem};
+use pam_findings::misspelled::Spot;
 use pam_findings::tables::TableFinding;
 use pam_report::{
-    TablePaths, kind_name, problem_name, stack_of, table_problem_level, table_problem_name,
+    TablePaths, UnusedLine, kind_name, problem_name, stack_of, table_problem_level,
+    table_problem_name,
 };
 use std::io::Write;
 
@@ -30,6 +33,26 @@ fn line_if_any(line: usize) -> Option<u64>
     ensures { result ≡ line_if_any line }
 {
     if line == 0 { None } else { Some(line as u64) }
+}
+
+/// Returns the column of a word.
+fn column_of(spot: Option<Spot>) -> Option<u64>
+    ensures { result ≡ option_map (λ s. s.column) spot }
+{
+    match spot {
+        Some(spot) => Some(spot.column as u64),
+        None => None,
+    }
+}
+
+/// Returns the length of a word.
+fn len_of(spot: Option<Spot>) -> Option<u64>
+    ensures { result ≡ option_map (λ s. s.len) spot }
+{
+    match spot {
+        Some(spot) => Some(spot.len as u64),
+        None => None,
+    }
 }
 
 /// Returns the stacks that meet a problem, unless it names its service.
@@ -102,6 +125,7 @@ pub(super) fn put_finding<W: Write>(found: FoundProblem<'_>, out: &mut Out<W>) -
     let place = &entry.0;
     let finding = entry.1;
     let problem = finding.problem;
+    let spot = spot_of(word);
     let name = problem_name(problem);
     let service = service_of(problem);
     let met = met_unless(finding.met, service);
@@ -119,7 +143,9 @@ pub(super) fn put_finding<W: Write>(found: FoundProblem<'_>, out: &mut Out<W>) -
         &[
             Member::text("kind", b"finding"),
             Member::readable("file", path_of(names, place.file)),
-            Member::number_if_any("line", line_if_any(place.line)),
+            Member::number_if_any("line", line_if_any(told_line(place.line, spot))),
+            Member::number_if_any("column", column_of(spot)),
+            Member::number_if_any("length", len_of(spot)),
             Member::text("level", level_name(problem.level()).as_bytes()),
             Member::text("number", number_in(name).as_bytes()),
             Member::text("name", name_in(name).as_bytes()),
@@ -152,6 +178,8 @@ fn put_other<'x, W: Write>(
             Member::text("kind", b"finding"),
             Member::readable("file", file),
             Member::number_if_any("line", line_if_any(line)),
+            Member::null("column"),
+            Member::null("length"),
             Member::text("level", level_name(level).as_bytes()),
             Member::text("number", number_in(name).as_bytes()),
             Member::text("name", name_in(name).as_bytes()),
@@ -186,16 +214,20 @@ pub(super) fn put_table_finding<W: Write>(
     )
 }
 
-/// Writes the line of S8, of a line of the accept file that accepts nothing.
-pub(super) fn put_unused<W: Write>(accept: &[u8], line: u32, out: &mut Out<W>) -> Result<(), Device>
-    ensures { Writes W.contents out.old out.new result (unused_json accept.now line) }
+/// Writes the line of S8, of a line of this file that says nothing of the host.
+pub(super) fn put_unused<W: Write>(
+    file: &[u8],
+    line: &UnusedLine,
+    out: &mut Out<W>,
+) -> Result<(), Device>
+    ensures { Writes W.contents out.old out.new result (unused_json file.now (unused_view line.now)) }
 {
     put_other(
-        accept,
-        line as usize,
-        Level::Warning,
-        "S8 NothingAccepted",
-        FindingValue::Unused,
+        file,
+        line.number() as usize,
+        line.level(),
+        "S8 UnusedLine",
+        FindingValue::Unused(line),
         out,
     )
 }

@@ -7,13 +7,15 @@ ghost use Rattle.pam_findings.specs.misspelled.MisspelledView.{misspelled_view};
 ghost use Rattle.pam_render.specs.parts.CheckNames.{word_of};
 ghost use Rattle.pam_render.specs.sentences.NamingView.{naming_view};
 ghost use Rattle.serde_json.specs.Written.{compact_text};
-ghost use Rattle.pam_render.specs.json_text.Sentences.{argument_parts, fault_parts, module_parts, naming_parts, problem_parts, released_parts, said_parts, subject_name};
-ghost use Rattle.pam_render.specs.json_text.Sentences.{table_difference_parts, table_parts};
+ghost use Rattle.pam_render.specs.json_text.Sentences.{argument_parts, fault_parts, module_parts, naming_parts, problem_parts};
+ghost use Rattle.pam_render.specs.json_text.Sentences.{released_parts, said_parts, subject_name};
+ghost use Rattle.pam_render.specs.json_text.Sentences.{table_difference_parts, table_parts, unused_parts};
+ghost use Rattle.pam_report.specs.Unused.{unused_view};
 
 use crate::json_lines::{Part, put_joined};
 use crate::sentences::{
-    Naming, argument_naming, module_naming, naming_of, plain_sentence, problem_sentence,
-    table_fault_sentence, time_fault_sentence,
+    Naming, UNUSED, argument_naming, hidden_text, idle_naming, module_naming, naming_of,
+    plain_sentence, problem_sentence, table_fault_sentence, time_fault_sentence,
 };
 use pam_codes::{Device, Out};
 use pam_conf::{FaultKind, Kind};
@@ -22,13 +24,19 @@ use pam_findings::misspelled::Misspelled;
 use pam_findings::tables::TableProblem;
 use pam_released::Difference;
 use pam_released::tables::TableDifference;
-use pam_report::{kind_name, stack_of};
+use pam_report::{UnusedLine, kind_name, stack_of};
 use std::io::Write;
+
+fn put_bytes<W: Write>(text: &[u8], out: &mut Out<W>) -> Result<(), Device>
+    ensures { Writes W.contents out.old out.new result (compact_text (joined (text.now ∷ []))) }
+{
+    put_joined(&[Part(text)], out)
+}
 
 fn put_one<W: Write>(text: &str, out: &mut Out<W>) -> Result<(), Device>
     ensures { Writes W.contents out.old out.new result (compact_text (joined (text.now ∷ []))) }
 {
-    put_joined(&[Part(text.as_bytes())], out)
+    put_bytes(text.as_bytes(), out)
 }
 
 /// Writes what is wrong with a word, and the nearest right word, or else how to mend the word.
@@ -48,6 +56,7 @@ fn put_named<W: Write>(
                 Part(misspelled.word.as_slice()),
                 Part(b"\""),
                 Part(naming.after.as_bytes()),
+                Part(hidden_text(&misspelled.word).as_bytes()),
                 Part(b"; did you mean \""),
                 Part(right.as_slice()),
                 Part(b"\"?"),
@@ -62,6 +71,7 @@ fn put_named<W: Write>(
                 Part(misspelled.word.as_slice()),
                 Part(b"\""),
                 Part(naming.after.as_bytes()),
+                Part(hidden_text(&misspelled.word).as_bytes()),
                 Part(b"; "),
                 Part(naming.mending.as_bytes()),
             ],
@@ -187,6 +197,16 @@ pub(super) fn put_said<W: Write>(
         Problem::NoModule { .. } => put_module(problem, word, out),
         Problem::Argument { wrong, .. } => put_argument(problem, wrong, word, out),
         _ => put_problem(problem, out),
+    }
+}
+
+/// Writes what is said of a line that says nothing of the host.
+pub(super) fn put_unused_said<W: Write>(unused: &UnusedLine, out: &mut Out<W>) -> Result<(), Device>
+    ensures { Writes W.contents out.old out.new result (compact_text (joined (unused_parts (unused_view unused.now)))) }
+{
+    match unused {
+        UnusedLine::OfAccept(_) => put_bytes(UNUSED, out),
+        UnusedLine::OfFacts(_, name) => put_named(idle_naming(), name, out),
     }
 }
 

@@ -6,12 +6,11 @@ ghost use Rattle.serde_json.specs.Written.{compact_text};
 ghost use Rattle.pam_render.specs.json_text.Check.{answer_object, answers_array, first_way_array, kinds_of, services_array, type_string};
 ghost use Rattle.pam_render.specs.json_text.Check.{types_array, way_array};
 
-use super::sentence::{put_said, put_table_said};
+use super::sentence::{put_said, put_table_said, put_unused_said};
 use crate::json_lines::{
     Elements, Member, Written, put_array, put_object, put_quoted, put_readable,
 };
 use crate::parts::text_at;
-use crate::sentences::UNUSED;
 use pam_codes::{Device, Out};
 use pam_conf::{Kind, Stack};
 use pam_drawing::name_of;
@@ -20,7 +19,7 @@ use pam_facts::known::name_of_path;
 use pam_findings::host::{Answered, Met, Problem, WayIn};
 use pam_findings::misspelled::Misspelled;
 use pam_findings::tables::TableProblem;
-use pam_report::{kind_name, path_at};
+use pam_report::{UnusedLine, kind_name, path_at};
 use std::io::Write;
 
 /// Returns the kinds that are meant, in their order.
@@ -198,8 +197,8 @@ pub(crate) enum FindingValue<'x> {
     },
     /// What is said of a problem of a table.
     TableSaid(TableProblem),
-    /// What is said of a line of the accept file that accepts nothing.
-    Unused,
+    /// What is said of a line that says nothing of the host.
+    Unused(&'x UnusedLine),
     /// The kinds of the stacks that meet a problem.
     Types(Option<Met>),
     /// The first services that meet a problem.
@@ -228,7 +227,7 @@ impl Written for FindingValue<'_> {
                 word,
             } => put_said(*line, *problem, *word, out),
             FindingValue::TableSaid(problem) => put_table_said(*problem, out),
-            FindingValue::Unused => put_quoted(UNUSED, out),
+            FindingValue::Unused(line) => put_unused_said(line, out),
             FindingValue::Types(met) => put_types(*met, out),
             FindingValue::Services { services, met } => put_services(*services, *met, out),
             FindingValue::Answers { ways, met, problem } => put_answers(*ways, *met, *problem, out),

@@ -4,7 +4,7 @@ use crate::parts::check::{Counts, Names};
 use pam_findings::host::{Finding, Place};
 use pam_findings::misspelled::Misspelled;
 use pam_findings::tables::TableFinding;
-use pam_report::TablePaths;
+use pam_report::{TablePaths, UnusedLine};
 
 /// A finding, beside the names that its line uses and the word that is wrong, if it is known.
 #[derive(Clone, Copy)]
@@ -24,10 +24,10 @@ pub enum CheckLine<'x> {
         paths: &'x TablePaths<'x>,
         finding: TableFinding,
     },
-    /// A line of the accept file that accepts nothing, from 1, beside the name of the file.
+    /// A line that says nothing of the host, beside the name of its file.
     Unused {
-        accept: &'x [u8],
-        line: u32,
+        file: &'x [u8],
+        line: &'x UnusedLine,
     },
     /// The last line: the number of services, and those of findings.
     Last {

@@ -6,18 +6,18 @@ ghost use Rattle.pam_codes.specs.Out.{Writes};
 ghost use Rattle.pam_render.specs.text.Check.{answer_text, answers_text, finding_line, first_way_in, is_its_own, kind_of_service};
 ghost use Rattle.pam_render.specs.text.Check.{met_of_cause, met_unless, met_unless_named, next_answer, number_text, of_service, place_text};
 ghost use Rattle.pam_render.specs.text.Check.{rest_text, sentence, subject_text};
-ghost use Rattle.pam_render.specs.text.Check.{way_and_met, way_in_at, way_text};
+ghost use Rattle.pam_render.specs.text.Check.{way_and_met, way_in_at, way_text, where_text};
 ghost use Rattle.pam_render.specs.parts.CheckNames.{names_view, word_of};
 
 use super::met::{put_met, put_met_if_any};
-use crate::parts::{FoundProblem, Names, path_of, text_at};
+use crate::parts::{FoundProblem, Names, path_of, spot_of, text_at};
 use crate::sentences::{level_name, put_name, put_said};
 use pam_codes::{Device, Out, Piece};
 use pam_conf::{Form, Kind, Stack};
 use pam_drawing::name_of;
 use pam_facts::known::name_of_path;
 use pam_findings::host::{Answered, Finding, Met, Place, Problem, WayIn};
-use pam_findings::misspelled::Misspelled;
+use pam_findings::misspelled::{Misspelled, Spot};
 use pam_report::{kind_name, path_at, problem_name, stack_of};
 use std::io::Write;
 
@@ -31,13 +31,33 @@ pub(super) fn put_line_number<W: Write>(line: usize, out: &mut Out<W>) -> Result
     out.put_line(&[Piece::Bytes(b":"), Piece::Number(line as u64)])
 }
 
-/// Writes `PATH:LINE: `.
+/// Writes `:LINE:COLUMN` where a word begins, or the line of the finding.
+fn put_where<W: Write>(line: usize, spot: Option<Spot>, out: &mut Out<W>) -> Result<(), Device>
+    ensures { Writes W.contents out.old out.new result (where_text line spot) }
+{
+    match spot {
+        Some(spot) => out.put_line(&[
+            Piece::Bytes(b":"),
+            Piece::Number(spot.line as u64),
+            Piece::Bytes(b":"),
+            Piece::Number(spot.column as u64),
+        ]),
+        None => put_line_number(line, out),
+    }
+}
+
+/// Writes `PATH:LINE: `, or `PATH:LINE:COLUMN: ` where a word begins.
 #[tactic(auto, unfolding(crate::specs::text::Check::place_text))]
-fn put_place<W: Write>(names: &Names<'_>, place: &Place, out: &mut Out<W>) -> Result<(), Device>
-    ensures { Writes W.contents out.old out.new result (place_text (names_view names.now).paths place.now) }
+fn put_place<W: Write>(
+    names: &Names<'_>,
+    place: &Place,
+    spot: Option<Spot>,
+    out: &mut Out<W>,
+) -> Result<(), Device>
+    ensures { Writes W.contents out.old out.new result (place_text (names_view names.now).paths place.now spot) }
 {
     put_name(path_of(names, place.file), out)?;
-    put_line_number(place.line, out)?;
+    put_where(place.line, spot, out)?;
     out.put(b": ")
 }
 
@@ -277,7 +297,7 @@ pub(super) fn put_finding<W: Write>(found: FoundProblem<'_>, out: &mut Out<W>) -
     let FoundProblem { names, entry, word } = found;
     let place = &entry.0;
     let finding = entry.1;
-    put_place(names, place, out)?;
+    put_place(names, place, spot_of(word), out)?;
     out.put_line(&[
         Piece::Bytes(level_name(finding.problem.level()).as_bytes()),
         Piece::Bytes(b": "),

@@ -13,7 +13,8 @@ returns-in_err-put g c =
     let value = check_view c.args.reply.now in
     err-front _ c.from_residual.ensures.0
     (front-is (front-longer (found_text names value ++ (tables_text value ++ (unused_text value ++ codes "]"))) c.in_err-put.ensures)
-    (lists-are (numbered_result names value.misspelled) (table_result value.table_paths) (unused_result value.accept) value.found value.tables value.unused _ _
+    (lists-are (numbered_result names value.misspelled) (table_result value.table_paths) (unused_result value.accept value.facts)
+    value.found value.tables value.unused _ _
     refl refl))
 
 pub returns-in_err-put_found : goal.returns-in_err-put_found
@@ -23,7 +24,8 @@ returns-in_err-put_found g c =
     err-front _ c.from_residual-in_err-put_found.ensures.0
     (front-is
     (front-then c.in_ok-put.ensures (front-longer (tables_text value ++ (unused_text value ++ codes "]")) c.in_err-put_found.ensures))
-    (lists-are (numbered_result names value.misspelled) (table_result value.table_paths) (unused_result value.accept) value.found value.tables value.unused _ _
+    (lists-are (numbered_result names value.misspelled) (table_result value.table_paths) (unused_result value.accept value.facts)
+    value.found value.tables value.unused _ _
     refl refl))
 
 pub returns-in_err-put_tables : goal.returns-in_err-put_tables
@@ -34,7 +36,8 @@ returns-in_err-put_tables g c =
     (front-is
     (front-then c.in_ok-put.ensures
     (front-then c.in_ok-put_found.ensures (front-longer (unused_text value ++ codes "]") c.in_err-put_tables.ensures)))
-    (lists-are (numbered_result names value.misspelled) (table_result value.table_paths) (unused_result value.accept) value.found value.tables value.unused _ _
+    (lists-are (numbered_result names value.misspelled) (table_result value.table_paths) (unused_result value.accept value.facts)
+    value.found value.tables value.unused _ _
     refl refl))
 
 pub returns-in_err-put_unused_lines : goal.returns-in_err-put_unused_lines
@@ -46,7 +49,8 @@ returns-in_err-put_unused_lines g c =
     (front-then c.in_ok-put.ensures
     (front-then c.in_ok-put_found.ensures
     (front-then c.in_ok-put_tables.ensures (front-longer (codes "]") c.in_err-put_unused_lines.ensures))))
-    (lists-are (numbered_result names value.misspelled) (table_result value.table_paths) (unused_result value.accept) value.found value.tables value.unused _ _
+    (lists-are (numbered_result names value.misspelled) (table_result value.table_paths) (unused_result value.accept value.facts)
+    value.found value.tables value.unused _ _
     refl refl))
 
 pub returns : goal.returns
@@ -57,5 +61,6 @@ returns g c =
     (writes-then _ _ _ c.in_ok-put.ensures
     (writes-then _ _ _ c.in_ok-put_found.ensures
     (writes-then _ _ _ c.in_ok-put_tables.ensures (writes-then _ _ _ c.in_ok-put_unused_lines.ensures c.put-2.ensures))))
-    (lists-are (numbered_result names value.misspelled) (table_result value.table_paths) (unused_result value.accept) value.found value.tables value.unused _ _
+    (lists-are (numbered_result names value.misspelled) (table_result value.table_paths) (unused_result value.accept value.facts)
+    value.found value.tables value.unused _ _
     refl refl)

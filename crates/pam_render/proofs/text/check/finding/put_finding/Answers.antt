@@ -15,7 +15,7 @@ returns-in_err-put_line g c =
     (front-is
     (front-longer (codes "\n")
     (front-longer (sentence names place finding.met finding.problem word) (front-then c.in_ok-put_place.ensures c.in_err-put_line.ensures)))
-    (finding_line-is names place finding word c.as_bytes.result.now c.as_bytes-2.result.now
+    (finding_line-is names place finding word c.spot_of.result c.as_bytes.result.now c.as_bytes-2.result.now c.spot_of.ensures
     (rw (c.as_bytes.ensures.value, c.level_name.ensures, c.level.ensures) refl) (c.as_bytes-2.ensures.value ∙ c.problem_name.ensures)))
 
 pub returns-in_err-put_sentence : goal.returns-in_err-put_sentence
@@ -25,8 +25,8 @@ returns-in_err-put_sentence g c =
     let before = all-then c.in_ok-put_place.ensures c.in_ok-put_line.ensures in
     err-front _ c.from_residual-in_err-put_sentence.ensures.0
     (front-is (front-longer (codes "\n") (front-then before c.in_err-put_sentence.ensures))
-    (finding_line-is names c.args.found.entry.now.0 c.args.found.entry.now.1 word c.as_bytes.result.now c.as_bytes-2.result.now
-    (rw (c.as_bytes.ensures.value, c.level_name.ensures, c.level.ensures) refl) (c.as_bytes-2.ensures.value ∙ c.problem_name.ensures)))
+    (finding_line-is names c.args.found.entry.now.0 c.args.found.entry.now.1 word c.spot_of.result c.as_bytes.result.now c.as_bytes-2.result.now
+    c.spot_of.ensures (rw (c.as_bytes.ensures.value, c.level_name.ensures, c.level.ensures) refl) (c.as_bytes-2.ensures.value ∙ c.problem_name.ensures)))
 
 pub returns : goal.returns
 returns g c =
@@ -34,5 +34,5 @@ returns g c =
     let word = word_of c.args.found.word in
     let before = all-then c.in_ok-put_place.ensures c.in_ok-put_line.ensures in
     writes-is _ _ _ _ _ _ (writes-then _ _ _ (all-then before c.in_ok-put_sentence.ensures) c.put.ensures)
-    (finding_line-is names c.args.found.entry.now.0 c.args.found.entry.now.1 word c.as_bytes.result.now c.as_bytes-2.result.now
-    (rw (c.as_bytes.ensures.value, c.level_name.ensures, c.level.ensures) refl) (c.as_bytes-2.ensures.value ∙ c.problem_name.ensures))
+    (finding_line-is names c.args.found.entry.now.0 c.args.found.entry.now.1 word c.spot_of.result c.as_bytes.result.now c.as_bytes-2.result.now
+    c.spot_of.ensures (rw (c.as_bytes.ensures.value, c.level_name.ensures, c.level.ensures) refl) (c.as_bytes-2.ensures.value ∙ c.problem_name.ensures))

@@ -7,4 +7,4 @@ use Rattle.pam_render.proofs.json_text.check.values.FindingValueWritten.put.Goal
 
 pub returns-in-Unused : goal.returns-in-Unused
 returns-in-Unused g c =
-    writes-is _ _ _ _ _ _ c.put_quoted.ensures (ap (λ (value : FindingValue). compact_text (finding_value value)) (sym c.in-Unused.is))
+    writes-is _ _ _ _ _ _ c.put_unused_said.ensures (ap (λ (value : FindingValue). compact_text (finding_value value)) (sym c.in-Unused.is))
