@@ -5,7 +5,7 @@ use Rattle.std.specs.Option.{option_copied}
 use Rattle.std.specs.Global.{Global}
 use Rattle.clap.specs.Words.{Text}
 use Rattle.pam_text.specs.Members.{Member}
-use Rattle.pam_report.specs.Inputs.{fits_task, policies_given, there_given}
+use Rattle.pam_report.specs.Inputs.{fits_task, named_files_given, policies_given, there_given}
 use Rattle.pam_report.specs.declared.inputs.CheckInputs.{CheckInputs}
 use Rattle.pam_report.specs.declared.inputs.SideInputs.{SideInputs}
 use Rattle.pam_report.specs.declared.inputs.InputError.{InputError}
@@ -111,6 +111,11 @@ abbrev pub HasModules : ConfSource → List (Bor Text) → Option (List Text) �
 HasModules source [] there = HasOwnModules source there
 HasModules source (folder ∷ folders) there = is_some there ≡ true
 
+-- WHETHER IT IS KNOWN which arguments name a file that is there: it is if the source is a system
+abbrev pub HasNamedFiles : ConfSource → Option (List Text) → Type 0
+HasNamedFiles (Root root) files = is_some files ≡ true
+HasNamedFiles source files = files ≡ None
+
 -- a side of a comparison is read from its source, and its modules are known by that source and the folders that are named
 abbrev pub IsSide : Told → ConfSource → CompareFiles → SideInputs → Type 0
 IsSide told source named side = IsFrom told [] source side.files × HasModules source named.modules.items side.there
@@ -152,7 +157,8 @@ HasLinks told candidates source given = ⊤
 abbrev pub HasSource : Told → List (Text × Text) → Task → Inputs → Type 0
 HasSource told candidates (Check source services fail_on named) given =
     HasFiles told candidates source given × HasTables told source named given × HasOthers told named given
-    × HasModules source named.modules.items (there_given given) × HasLinks told candidates source given
+    × HasModules source named.modules.items (there_given given) × HasNamedFiles source (named_files_given given)
+    × HasLinks told candidates source given
 HasSource told candidates (Compare old new service kind named) given = HasSides told old new named given
 HasSource told candidates (Show source kind release) given = HasFiles told candidates source given
 HasSource told candidates (Decide source kind answered) given = HasFiles told candidates source given

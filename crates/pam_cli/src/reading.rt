@@ -13,6 +13,7 @@ mod files;
 mod links;
 mod module_paths;
 mod modules;
+mod named_files;
 mod sources;
 mod tables;
 
@@ -21,6 +22,7 @@ use access::named_access;
 use files::named_file;
 use links::links_outside;
 use modules::modules_there;
+use named_files::files_there;
 use pam_conf::Files;
 use pam_report::{CheckInputs, InputError, Inputs, KnowledgeInputs, SideInputs};
 use pam_text::Texts;
@@ -67,7 +69,7 @@ fn optional_files<S: System>(
     Ok((first, second))
 }
 
-/// Looks for links and for the modules of a configuration, and reads the tables of its system or those that are named, and the facts
+/// Looks for links, for the modules of a configuration and for the files that its arguments name, and reads the tables of its system or those that are named, and the facts
 /// file and the accept file that are named.
 fn given_inputs<S: System>(
     system: &S,
@@ -82,12 +84,14 @@ fn given_inputs<S: System>(
 {
     let outside = links_outside(system, alloc, source, candidates, found)?;
     let there = modules_there(system, alloc, source, &named.modules, &found.files)?;
+    let named_files = files_there(system, alloc, source, &found.files)?;
     let tables = table_files(system, alloc, source, &named.tables, ALL_TABLES)?;
     let others = optional_files(system, alloc, named.facts, named.accept)?;
     Ok(CheckInputs {
         vendor_start: found.vendor_start,
         outside,
         there,
+        named_files,
         tables,
         facts: others.0,
         accept: others.1,
@@ -250,7 +254,7 @@ fn policy_inputs<S: System>(
     })
 }
 
-/// Reads the files of a request: the configuration, the folders of modules, the group file, the access tables, the time table, and then
+/// Reads the files of a request: the configuration, the folders of modules and what arguments name, the group file, the access tables, the time table, and then
 /// the other files.
 pub(crate) fn inputs_of<S: System>(
     system: &S,

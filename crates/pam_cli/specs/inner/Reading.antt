@@ -26,7 +26,7 @@ use Rattle.pam_cli.specs.AccessTables.{AreContents}
 use Rattle.pam_cli.specs.Links.{AreLinks}
 use Rattle.pam_cli.specs.Sources.{IsInSource, IsUnread}
 use Rattle.pam_cli.specs.System.{Told}
-use Rattle.pam_cli.specs.Reading.{AreOthers, AreTables, AreKnownTables, IsFile, HasKnowledge, HasModules, IsOfKnowledge, IsOfCheck, IsReading}
+use Rattle.pam_cli.specs.Reading.{AreOthers, AreTables, AreKnownTables, IsFile, HasKnowledge, HasModules, HasNamedFiles, IsOfKnowledge, IsOfCheck, IsReading}
 
 -- a name of the source of a side, or one of the folders of modules
 abbrev pub IsOfSide : ConfSource → CompareFiles → List ℕ → Type 0
@@ -64,7 +64,7 @@ IsCompareReading told old new named result =
 abbrev pub IsGivenReading : Told → List (Text × Text) → List Named → ℕ → ConfSource → CheckFiles → Result CheckInputs InputError → Type 0
 IsGivenReading told candidates files vendor_start source named (Ok given) =
     (given.vendor_start ≡ vendor_start) × (fits_check named given ≡ true) × AreTables told true true source named.tables given.tables
-    × AreOthers told named given × HasModules source named.modules.items given.there
+    × AreOthers told named given × HasModules source named.modules.items given.there × HasNamedFiles source given.named_files
     × AreLinks told candidates source files vendor_start given.outside.items
 IsGivenReading told candidates files vendor_start source named (Err error) = IsUnread (λ name. IsInSource source name ⊎ IsOfCheck named name) error
 

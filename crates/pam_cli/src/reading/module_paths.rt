@@ -20,8 +20,8 @@ fn words_before_path(form: Form) -> usize {
     }
 }
 
-/// Returns the module path of a line, as it is written.
-fn path_word(form: Form, line: &[u8]) -> Option<&[u8]> {
+/// Returns the module path of a line, as it is written, and the words after it.
+pub(super) fn split_path(form: Form, line: &[u8]) -> Option<(&[u8], Words<'_>)> {
     let Ok(mut words) = Words::of(line) else {
         return None;
     };
@@ -29,8 +29,7 @@ fn path_word(form: Form, line: &[u8]) -> Option<&[u8]> {
         let (_, after) = words.split_first()?;
         words = after;
     }
-    let (word, _) = words.split_first()?;
-    Some(word)
+    words.split_first()
 }
 
 impl ModulePaths {
@@ -40,7 +39,7 @@ impl ModulePaths {
         if !line.contains(&b'/') {
             return Ok(());
         }
-        let Some(word) = path_word(form, line) else {
+        let Some((word, _)) = split_path(form, line) else {
             return Ok(());
         };
         let mut inside = Vec::new(alloc);

@@ -1,8 +1,8 @@
 //! What modules make of the arguments of their rules, as their manual pages have them.
 
 use crate::tests::same::same;
-use pam_arguments::{Arguments, Module, Reaction, Verdict, Wanted};
 use pam_conf::Kind;
+use pam_facts::arguments::{Arguments, Module, Reaction, Verdict, Wanted};
 use std::alloc::Global;
 use std::process::Abort;
 use std::test::Fail;

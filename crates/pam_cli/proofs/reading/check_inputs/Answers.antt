@@ -14,5 +14,5 @@ returns g c =
     let candidates = map candidate_view c.args.candidates.now in
     let fits = read_fits told candidates c.args.source found.files found.paths found.vendor_start c.in_ok-found.ensures in
     let read = subst (IsRead told candidates c.args.source found.files found.paths) (sym given.0) c.in_ok-found.ensures in
-    let links = subst (λ start. AreLinks told candidates c.args.source found.files.entries start c.in_ok-given.given.outside.items) (sym given.0) given.5 in
-    λ services fail_on. (ap₂ ◌&&◌ (eq-eqb _ _ fits) given.1, (read, given.2, given.3, given.4, links))
+    let links = subst (λ start. AreLinks told candidates c.args.source found.files.entries start c.in_ok-given.given.outside.items) (sym given.0) given.6 in
+    λ services fail_on. (ap₂ ◌&&◌ (eq-eqb _ _ fits) given.1, (read, given.2, given.3, given.4, given.5, links))

@@ -13,5 +13,6 @@ returns g c =
       tables,
       (files.0.1, files.1.1),
       rw (← c.deref.ensures.value) c.in_ok-there.ensures.ok,
+      c.in_ok-named_files.ensures.ok,
       c.in_ok-outside.ensures,
     )
