@@ -72,7 +72,8 @@ def outside():
     """The files outside of the root, to which the running system would follow links."""
     return {"pam.d/login": OUTSIDE, "pam.d/more": OUTSIDE, "pam.conf": b"login " + OUTSIDE, "login": OUTSIDE,
             **below("tables", FAULTY), **below("lib/security", {"pam_outside.so": b"", "pam_alone.so": b""}),
-            **below("security", {"pam_outside.so": b"", "pam_alone.so": b""})}
+            **below("security", {"pam_outside.so": b"", "pam_alone.so": b""}),
+            "users.db": b"", **below("own", {"access": b"", "limits": b""})}
 
 
 # What is in each root, and what is seen of it. `out` is the path of what lies outside, without its first slash.
@@ -205,6 +206,25 @@ def access_tables(out):
     yield Case(files, {folder: "access.d"}, files)
 
 
+def named_files(out):
+    """Links to files that arguments name, and to what is above them."""
+    rules = (b"auth required pam_unix.so\nauth required pam_userdb.so db=/etc/users\naccount required pam_access.so accessfile=/etc/own/access\n"
+             b"session required pam_limits.so conf=/etc/own/limits\n")
+    files = {"etc/pam.d/login": rules}
+    both = {"access": b"", "limits": b""}
+    seen = {**files, "etc/users.db": b"", **below("etc/own", both)}
+    yield Case(seen, {}, seen)
+    yield Case(files, {}, files)
+    yield Case({**files, "store/users": b"", **below("store/own", both)}, {"etc/users.db": "/store/users", "etc/own": "../store/own"}, seen)
+    yield Case(files, {"etc/users.db": "/" + out + "/users.db", "etc/own": "../../out/own"}, files)
+    yield Case({**files, "etc/own/": None}, {"etc/users.db": "users.db", "etc/own/access": "/etc/own/limits", "etc/own/limits": "access"}, files)
+    yield Case({**files, "etc/users": b"", "etc/own": b""}, {}, {**files, "etc/users": b"", "etc/own": b""})
+    yield Case({**files, "etc/users.db/": None, "etc/own/limits/": None}, {"etc/own/access": "limits"},
+               {**files, "etc/users.db/": None, "etc/own/limits/": None, "etc/own/access/": None})
+    yield Case({**files, **below(out + "/own", both)}, chain("etc/own", out + "/own", MOST_LINKS), {**files, **below("etc/own", both)})
+    yield Case({**files, **below(out + "/own", both)}, chain("etc/own", out + "/own", MOST_LINKS + 1), files)
+
+
 def rows(out):
     """As many links as are followed, and one more; those of the folder count too."""
     su, seen = {"etc/pam.d/su": OTHER}, {"etc/pam.d/su": OTHER, "etc/pam.d/login": INSIDE}
@@ -216,7 +236,7 @@ def rows(out):
                    seen if links < MOST_LINKS else su)
 
 
-ROOTS = [entries, nowhere, folders, single, modules, tables, access_tables, rows]
+ROOTS = [entries, nowhere, folders, single, modules, tables, access_tables, named_files, rows]
 
 
 # The runs
@@ -290,7 +310,7 @@ def unread(program):
 
 
 def closed(program):
-    """A link through a folder that may not be searched leads somewhere."""
+    """A link through a folder that may not be searched leads somewhere, and a file that an argument names may be in such a folder."""
     user = OtherUser(program)
     if not user.exists:
         return 0
@@ -300,7 +320,14 @@ def closed(program):
     expect(words, Answer(b"", b"pamcheck: V1 Read login\n", 5), user.run(words), {})
     os.chmod("root/closed", 0o700)
     shutil.rmtree("root")
-    return 1
+    make("root", {"etc/pam.d/su": b"account required pam_access.so accessfile=/closed/own.conf\n", "closed/own.conf": b""})
+    os.chmod("root/closed", 0)
+    line = b"pamcheck: V1 Read root/closed/own.conf: the system does not permit it; run pamcheck as a user who may read it\n"
+    words = ["check", "--root", "root"]
+    expect(words, Answer(b"", line, 5), user.run(words), {})
+    os.chmod("root/closed", 0o700)
+    shutil.rmtree("root")
+    return 2
 
 
 def refused(program):

@@ -1,13 +1,13 @@
-"""The arguments of modules, read plainly from `docs/SPECIFICATION.md`: S15 to S20, and S23.
+"""The arguments of modules, read plainly from `docs/SPECIFICATION.md`: S15 to S20, S23 and S24.
 
-What modules know is the table of the program, `crates/pam_arguments/src/table.rt`, which is data and no code."""
+What modules know is the table of the program, `crates/pam_facts/src/arguments/table.rt`, which is data and no code."""
 import re
 from functools import lru_cache
 from pathlib import Path
 
 from model import spelling
 
-TABLE = Path(__file__).resolve().parents[2] / "crates/pam_arguments/src/table.rt"
+TABLE = Path(__file__).resolve().parents[2] / "crates/pam_facts/src/arguments/table.rt"
 BOOLEANS = b"true yes on 1 false no off 0".split()
 PATTERNS = {b"number": rb"[-+]?[0-9]+", b"number-or-never": rb"[-+]?[0-9]+|never", b"octal": rb"[-+]?[0-7]+",
             b"bool": rb"(?i:%s)" % b"|".join(BOOLEANS)}
@@ -18,11 +18,20 @@ SAID = {"S15": (b" knows no argument ", b"", b"mend it, or remove it"),
         "S18": (b" cannot use the value of ", b"", b"write one that its manual page names"),
         "S20": (b" takes by ", b" only a password that a module before it asked for, and no run asks for one, so it fails",
                 b"remove the argument, or ask for the password before it"),
-        "S23": (b" stores passwords by a weak hash with ", b"", b"write yescrypt in its place")}
+        "S23": (b" stores passwords by a weak hash with ", b"", b"write yescrypt in its place"),
+        "S24": (b" does not find the file of ", b"", b"make the file, or mend its path")}
+# What a module does without its file, by what S24 says of it.
+WITHOUT_FILE = [b", so it always fails", b", so it lets pass whoever asks"]
+# The argument by which a module is told of a file that it needs, and the kinds in which it reads it.
+EACH = "auth account password session"
+FILES = {b"pam_access": (b"accessfile", EACH), b"pam_listfile": (b"file", EACH), b"pam_localuser": (b"file", EACH), b"pam_issue": (b"issue", "auth"),
+         b"pam_userdb": (b"db", "auth account"), b"pam_faillock": (b"conf", "auth account"), b"pam_radius_auth": (b"conf", "auth session"),
+         b"pam_duo": (b"conf", "auth"), b"pam_time": (b"conffile", "account"), b"pam_passwdqc": (b"config", "password"),
+         b"pam_limits": (b"conf", "session")}
 # Where the argument is not told.
 UNTOLD = b"an argument is not one that the module takes; mend it, or remove it"
 NAMES = {"S15": "UnknownArgument", "S16": "LongerWord", "S17": "ArgumentOfOtherKind", "S18": "BadValue", "S19": "BadArguments",
-         "S20": "NoToken", "S23": "WeakHash"}
+         "S20": "NoToken", "S23": "WeakHash", "S24": "MissingFile"}
 # What the arguments of a rule lack as a whole.
 LACKS = [b"pam_exec.so has no program to run, so it always fails; name one after its options",
          b"pam_listfile.so lacks one of item=, sense= and file=, so it always answers as onerr= says; write all three",
@@ -34,6 +43,8 @@ CONDITION = (rb"(user|login|name|uid|gid|shell|home|dir|homedir|ruser|rhost|tty|
              rb"(<=?|>=?|l[te]|g[te]|eq|ne|!?=|[=!]~|(no)?glob|(not)?(in|ingroup|innetgr))\0[^\0]*\0")
 KINDS = [b"auth", b"account", b"password", b"session"]
 REACTIONS = [b"ignores", b"logs", b"fails"]
+# What is wrong with a word that a module refuses.
+REFUSED = "S15", REACTIONS.index(b"fails")
 # Words by which a module takes only a password that a module before it asked for, by kind, each with the modules that have it.
 TAKERS = {b"auth": {b"use_first_pass": b"""pam_unix pam_ldap pam_sss pam_winbind pam_userdb pam_radius_auth pam_pwdfile
                         pam_google_authenticator pam_oath pam_yubico pam_mysql pam_ccreds pam_pkcs11""".split(),
@@ -136,6 +147,20 @@ def lack(name, kind, words):
     return None
 
 
+def file_of(name, kind, word):
+    """The path of the file that an argument names, and without which its module cannot do; `None` of any other argument."""
+    argument, kinds = FILES.get(name, (None, ""))
+    front, sign, path = word.partition(b"=")
+    if front != argument or kind.decode() not in kinds.split() or not path.startswith(b"/"):
+        return None
+    return path + b".db" * (argument == b"db")
+
+
+def without_file(name):
+    """What a module does without its file, by its position in WITHOUT_FILE."""
+    return 1 if name in (b"pam_time", b"pam_duo") else 0
+
+
 def takes(name, kind, word):
     """Whether a module has a word by which it takes only a password that a module before it asked for."""
     return name in TAKERS.get(kind, {}).get(word, [])
@@ -156,10 +181,15 @@ def may_ask(name, kind, words):
     return name not in NEVER_ASKERS and not any(takes(name, kind, word) for word in words)
 
 
-def always_fails(name, kind, words):
-    """Whether a module always fails, by what its arguments are."""
-    refused = "S15", REACTIONS.index(b"fails")
-    return lack(name, kind, words) not in (None, 1) or any(wrong(name, kind, word) == refused for word in words)
+def fails_by_lack(name, kind, words):
+    """Whether a module always fails, by what its arguments lack."""
+    # pam_exec runs nothing in the first pass of `password`, and pam_listfile answers as its `onerr=` says.
+    return lack(name, kind, words) not in (None, 1, 0 if kind == b"password" else None)
+
+
+def as_facts():
+    """The table as lines of a facts file."""
+    return b"".join(b"%s knows %s %s\n" % (name, row.argument, b",".join(row.kinds)) for name in table() for row in rows(name))
 
 
 def nearest(name, word):
@@ -173,7 +203,9 @@ def sentence(name, file, number, does, word, quote, shown):
     before, after, mending = SAID[number]
     if number == "S15" and REACTIONS[does] == b"fails":
         after = b", so it always fails"
+    if number == "S24":
+        after = WITHOUT_FILE[does]
     if number == "S15" and (word in KINDS or word.endswith(b".so")):
         mending = b"put a line feed before the next rule"
     near = nearest(name, word) if number in ("S15", "S16") else None
-    return shown(file) + before + quote(word) + after + b"; " + (mending if near is None else b"did you mean %s?" % quote(near))
+    return shown(file) + before + quote(word) + after + spelling.hidden(word) + b"; " + (mending if near is None else b"did you mean %s?" % quote(near))

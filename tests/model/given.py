@@ -29,16 +29,32 @@ def facts(data):
     return [row for row in rows if row]
 
 
+def named_rows(data):
+    """The number of each line of a facts file that has a row, and the name of its module."""
+    return [(number, re.split(rb"[ \t]+", line.strip(b" \t"))[0]) for number, line in lines_of(data)
+            if line.strip(b" \t") and not line.startswith(b"#")]
+
+
 def row_of(line):
     """The words of a row, with its class, kinds and codes in lower case; none of a comment or a blank line."""
     words = [word for word in re.split(rb"[ \t]", line) if word]
     if line.startswith(b"#") or not words:
         return []
     name, rest = words[0], words[1:]
+    if rest[:1] == [b"knows"]:
+        return known_row(name, rest[1:])
     of_class = next((at for at, word in enumerate(rest[:MOST_ARGUMENTS + 1]) if word in CLASSES), None)
     if b"/" in name or name.endswith(b".so") or of_class is None:
         raise LineFault("TE16")
     return [name] + rest[:of_class + 1] + judged_codes([word.lower() for word in rest[of_class + 1:]])
+
+
+def known_row(name, words):
+    """The words of a row of an argument that a module knows, with its kinds."""
+    kinds = words[1].lower().split(b",") if len(words) > 1 else stacks.KINDS
+    if b"/" in name or name.endswith(b".so") or not 1 <= len(words) <= 2 or not set(kinds) <= set(stacks.KINDS):
+        raise LineFault("TE16")
+    return [name, b"knows", words[0], b",".join(kinds)]
 
 
 def judged_codes(words):
@@ -166,3 +182,9 @@ def is_at(root, path, found):
     if root is None:
         return os.path.isfile(path)
     return isinstance(found(joined(root, path.lstrip(b"/"))), bytes)
+
+
+def files_below(root, found):
+    """Whether something is at an absolute path of the system with this root; `None` where there is no root. A path that is not UTF-8 counts as
+    there."""
+    return None if root is None else lambda path: not is_text(path) or found(joined(root, path.lstrip(b"/"))) is not None

@@ -82,12 +82,13 @@ def page(paths, more, backward, modules):
 
 # The lines of `check`.
 
-def finding(path, line_number, level, name, sentence, stack=None, met=(), answers=()):
+def finding(path, spot, level, name, sentence, stack=None, met=(), answers=()):
     """A finding: where, how grave, what is wrong, and which stacks meet it."""
     number, name = text(name).split(" ")
     services = list(dict.fromkeys(text(service) for service, _ in met))
     service, kind = [word if word is None else text(word) for word in stack or (None, None)]
-    return line("finding", file=text(path), line=line_number or None, level=text(host.LEVELS[level]), number=number, name=name,
+    line_number, column, length = spot
+    return line("finding", file=text(path), line=line_number or None, column=column, length=length, level=text(host.LEVELS[level]), number=number, name=name,
                 sentence=text(sentence), service=service, type=kind, types=[text(kind) for kind in stacks.KINDS if kind in {kind for _, kind in met}],
                 services=services[:2], service_count=len(services),
                 answers=[{"number": number, "module": text(module), "code": text(code)} for number, module, code in answers])
@@ -104,12 +105,13 @@ def findings(checked, paths, accept=(b"", ()), given=()):
     for (file, at, number, detail), met in found:
         sentence = host.said(checked, file, at, number, detail, quoted, lambda name: text(name).encode())
         stack = detail[:2] if isinstance(detail, tuple) else None
-        yield (paths[file], at, host.level_of(number, detail), host.name_of(number), sentence, stack, host.named_met(detail, met),
+        word = host.spot(checked, file, at, number, detail)
+        yield (paths[file], word or (at, None, None), host.level_of(number, detail), host.name_of(number), sentence, stack, host.named_met(detail, met),
                checked.ways.get((file, at, number, detail), ()))
     for table, at, number in of_tables:
-        yield given[table][0], at, host_tables.level_of(number), host_tables.name_of(number), host_tables.sentence(table, number)
-    for at in unused:
-        yield accept[0], at, 1, b"S8 NothingAccepted", host.UNUSED
+        yield given[table][0], (at, None, None), host_tables.level_of(number), host_tables.name_of(number), host_tables.sentence(table, number)
+    for one in unused:
+        yield one[0], (one[1], None, None), host.level_of_unused(one), b"S8 UnusedLine", host.unused_sentence(one, quoted)
 
 
 def check(checked, paths, accept=(b"", ()), given=()):

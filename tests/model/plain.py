@@ -7,7 +7,7 @@ words that it does not take is its own, so standard error is `None` then. Help a
 import re
 from itertools import islice
 
-from model import compare, graph, json_lines, needs, policies, policy_text, readings, said, sarif, services, sources, stacks, tables
+from model import arguments, compare, graph, json_lines, needs, policies, policy_text, readings, said, sarif, services, sources, stacks, tables
 from model import zones
 from model import given as plain_given
 from model import host as plain_host
@@ -141,7 +141,7 @@ class Request:
     def judge(self):
         """Refuses words, the candidates aside."""
         if self.command in WITH_SOURCE:
-            sources.judge(self.options, self.command in (b"check", *OF_POLICIES))
+            sources.judge(self.options, self.command in (b"check", b"outcomes", b"graph", *OF_POLICIES))
         if self.options.get(b"--fail-on", b"warning") not in plain_host.LEVELS:
             raise Fault("U13")
         if self.command == b"compare":
@@ -208,7 +208,7 @@ class Request:
     def answer(self, tree):
         """The text on standard output and the status."""
         if self.command == b"facts":
-            return b"".join(b" ".join(row) + b"\n" for row in plain_host.FACTS), 0
+            return b"".join(b" ".join(row) + b"\n" for row in plain_host.FACTS) + arguments.as_facts(), 0
         if self.command == b"version":
             return b"pamcheck %s\n" % VERSION.encode(), 0
         if self.command == b"compare":
@@ -296,7 +296,9 @@ class Request:
         facts = plain_given.facts(data[b"--facts"])
         accepted = plain_given.accepted(data[b"--accept"])
         there = plain_given.there(self.options.get(b"--root"), folders, source.files, lambda path: found(tree, path))
-        host = plain_host.Host(form, files, self.services, there, facts, source.of_vendor, source.outside)
+        host = plain_host.Host(form, files, self.services, there, facts, source.of_vendor, source.outside,
+                               plain_given.files_below(self.options.get(b"--root"), lambda path: found(tree, path)))
+        host.fact_lines = self.options.get(b"--facts", b""), plain_given.named_rows(data[b"--facts"])
         accept = self.options.get(b"--accept", b""), accepted
         status = plain_host.status(plain_host.levels_of(*plain_host.unaccepted(host, accept, given)), self.options.get(b"--fail-on", b"warning"))
         if self.form == b"json":
@@ -339,11 +341,16 @@ class Request:
         """The rows of the facts file."""
         self.facts = tuple(tuple(row) for row in plain_given.facts(self.tables.get(b"--facts", b"")))
 
+    def judge_settings(self, is_module):
+        """Refuses the first value of `--set` whose key is that of no module, or that leaves no code."""
+        told = said.key(self.settings, is_module)
+        if told is not None:
+            raise Fault("U10", told=told)
+
     def judge_keys(self, files):
         """Refuses a key that is no module's name, and one whose codes leave none."""
         side = compare.Side(files, self.there, self.facts, {}, self.settings)
-        if any(not codes or not side.calls(key) for key, codes in self.settings):
-            raise Fault("U10")
+        self.judge_settings(side.calls)
 
     def answers_at(self, service, kind, modules):
         """The codes that each module of a stack may answer."""
@@ -371,8 +378,7 @@ class Request:
         facts = plain_given.facts(data[b"--facts"])
         returns = tables.returns_of(data[b"--returns"])
         old, new = [compare.Side(files, there, facts, returns, self.settings) for files, there in sides]
-        if any(not codes or not old.calls(key) and not new.calls(key) for key, codes in self.settings):
-            raise Fault("U10")
+        self.judge_settings(lambda key: old.calls(key) or new.calls(key))
         return compare.Comparison(old, new, self.arguments[2] if len(self.arguments) > 2 else None, self.kind_named())
 
 
@@ -469,8 +475,7 @@ class Request:
     def with_settings(self, names, modules, known):
         """The codes that each module may answer, with what is set for it."""
         keys = [{name, b"%d" % module.number, b"%s:%d" % (module.file, module.line)} for name, module in zip(names, modules)]
-        if any(not codes or not any(key in own for own in keys) for key, codes in self.settings):
-            raise Fault("U10")
+        self.judge_settings(lambda key: any(key in own for own in keys))
         for key, codes in self.settings:
             for position, module in enumerate(modules):
                 if key in keys[position] and (self.there is None or module.path in self.there):

@@ -13,16 +13,21 @@ def rule(row):
             "fullDescription": {"text": "%s\nLinux-PAM: %s" % (row.meaning, row.linux_pam)}, "help": {"text": "To mend it: " + row.mending}}
 
 
-def place(path, at):
-    """A file, and the line in it if there is one."""
+def region(at, column, length):
+    """A line, and the columns of the word in it that is meant, if one is."""
+    return {"startLine": at} if column is None else {"startLine": at, "startColumn": column, "endColumn": column + length}
+
+
+def place(path, spot):
+    """A file, and what is meant in it if that is not all of it."""
     scheme = "file://" if path.startswith(b"/") else ""
-    region = {"region": {"startLine": at}} if at else {}
-    return {"physicalLocation": {"artifactLocation": {"uri": scheme + quote(path, safe="/")}, **region}}
+    meant = {"region": region(*spot)} if spot[0] else {}
+    return {"physicalLocation": {"artifactLocation": {"uri": scheme + quote(path, safe="/")}, **meant}}
 
 
-def result(path, at, level, name, sentence, *_):
+def result(path, spot, level, name, sentence, *_):
     return {"ruleId": json_lines.text(name).split(" ")[0], "level": json_lines.text(host.LEVELS[level]),
-            "message": {"text": json_lines.text(sentence)}, "locations": [place(path, at)]}
+            "message": {"text": json_lines.text(sentence)}, "locations": [place(path, spot)]}
 
 
 def check(version, *checked):

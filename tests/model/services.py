@@ -5,6 +5,9 @@ from model import faults, host, spelling, stacks
 from model.faults import Fault, LineFault
 
 
+NO_CONFIGURATION = b": there is none of etc/pam.d, usr/lib/pam.d and etc/pam.conf below %s; write the root folder of a system"
+
+
 def of_rules(data):
     """The services of the rules of pam.conf, each once, or `None` where it has a fault, which may hide one."""
     if len(data) > faults.MOST_BYTES or b"\0" in data:
@@ -39,6 +42,8 @@ def judge(files, named, options):
     """Refuses the first of the names that is no service of the configuration."""
     there = names(files)
     for name in named if there is not None else []:
+        if name.lower() not in there and b"--root" in options and files.form == stacks.SINGLE and not files.files:
+            raise Fault("U18", said=host.shown(NO_CONFIGURATION % options[b"--root"]))
         if name.lower() not in there:
             what = b"file" if files.form == stacks.DIR else b"rule of"
             said = b': there is no %s "%s" in %s' % (what, name, place(options, files.form))
