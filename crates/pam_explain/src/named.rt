@@ -76,9 +76,9 @@ const FAILED_READ: Explanation = Explanation {
     name: "Read",
     level: Level::Error,
     meaning: concat!(
-        "A file or folder cannot be read: it is not there, or may not be read. check\n",
-        "then says nothing at all, since a report on a part of a host could be silent\n",
-        "where the host is not sound."
+        "A file or folder cannot be read: it is not there, or may not be read. Where it\n",
+        "is a file of the folder, check leaves out the services that take it in, says\n",
+        "what it finds of the others, and has the status 5. Else nothing is said."
     ),
     example: "$ pamcheck check --dir no-such-folder",
     linux_pam: FAULT_OF_RUN,

@@ -170,7 +170,7 @@ const FORMAT_NAME: Explanation = Explanation {
     mending: concat!(
         "for graph, write dot, mermaid or svg, in small letters. svg is a\n",
         "picture; of dot, Graphviz makes one: dot -Tpng. For check, write\n",
-        "short, json or sarif, and no other one than json beside --json."
+        "short, full, json or sarif, and no other one than json beside --json."
     ),
 };
 
