@@ -1,5 +1,6 @@
 pub mod Alike
 pub mod Asking
+pub mod Guarding
 pub mod Listing
 pub mod Merging
 pub mod Ordered

@@ -7,6 +7,7 @@ use Rattle.pam_dispatch.specs.Runs.{Assignment, answers_of}
 use Rattle.pam_dispatch.specs.Tree.{runs_of_stack}
 use Rattle.pam_changes.specs.Asked.{AreModules, AreShownOnce, IsOneToOne, Rise}
 use Rattle.pam_changes.specs.Changes.{AreEqual}
+use Rattle.pam_changes.specs.Guards.{guarding}
 use Rattle.pam_changes.specs.Known.{alike_partners, known_codes}
 use Rattle.pam_changes.specs.Pairs.{IsPair}
 use Rattle.pam_compare.specs.Same.{AreSame}
@@ -28,6 +29,12 @@ abbrev pub EqualStacksAreKnownAlike : Type 0
 EqualStacksAreKnownAlike =
     (sides : SidesText) (kind : Kind) (old new : Items) → AreEqual sides old new → (number : ℕ) → 1 ≤ number → number ≤ module_count old →
     known_codes sides sides.old kind old number ≡ known_codes sides sides.new kind new number
+
+-- in one configuration, the same modules of stacks with the same items guard a login, each as it does in the other stack
+abbrev pub SameItemsGuardAlike : Type 0
+SameItemsGuardAlike =
+    (sides : SidesText) (side : SideText) (kind : Kind) (one other : Items) → AreSame one other → (number : ℕ) →
+    guarding sides.facts side kind one number ≡ guarding sides.facts side kind other number
 
 -- of two lists of modules that are asked, each module is shown once, with its answer, and no other
 abbrev pub AskedAreShownOnce : Type 0

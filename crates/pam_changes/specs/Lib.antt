@@ -1,6 +1,7 @@
 pub mod Asked
 pub mod Changes
 pub mod Counts
+pub mod Guards
 pub mod Known
 pub mod Laws
 pub mod Modules

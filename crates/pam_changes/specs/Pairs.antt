@@ -16,6 +16,7 @@ use Rattle.pam_facts.specs.Answers.{Allows}
 use Rattle.pam_paths.specs.Known.{may_answer}
 use Rattle.pam_paths.specs.Listing.{Allowance}
 use Rattle.pam_paths.specs.declared.knowledge.Known.{Known}
+use Rattle.pam_changes.specs.Guards.{AreGuards}
 use Rattle.pam_changes.specs.Known.{alike_partners, known_codes}
 use Rattle.pam_changes.specs.Modules.{AreModuleChanges}
 use Rattle.pam_changes.specs.Sides.{SidesText}
@@ -70,4 +71,5 @@ pub record IsCompared (sides : SidesText) (kind : Kind) (old new : Items) (partn
 pub record IsPair (sides : SidesText) (pair : StackPair) : Type 0 where
   pub matching : pair.matching ≡ matching_of pair.old pair.new
   pub modules : AreModuleChanges pair.matching pair.old pair.new pair.modules
+  pub guards : AreGuards sides pair.kind pair.old pair.new pair.modules pair.guards
   pub decisions : IsCompared sides pair.kind pair.old pair.new pair.matching pair.decisions

@@ -5,6 +5,7 @@
 mod changes;
 mod counts;
 mod digest;
+mod guards;
 mod known;
 pub mod laws;
 mod modules;
@@ -16,6 +17,7 @@ mod steps;
 
 pub use changes::HostChanges;
 pub use counts::{Counts, Verdict};
+pub use guards::{Guard, GuardChanges, GuardingModule};
 pub use modules::{MatchedPair, ModuleChanges};
 pub use pair::{Decisions, Shown, ShownChanges, StackPair};
 pub use services::ComparedService;

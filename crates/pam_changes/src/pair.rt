@@ -8,6 +8,7 @@ ghost use Rattle.pam_paths.specs.Listing.{Allowance};
 ghost use Rattle.pam_changes.specs.Pairs.{AreDecisions, AreShown, IsCompared, IsPair, IsProgramOf, IsShown};
 ghost use Rattle.pam_changes.specs.Sides.{sides_view};
 
+use crate::guards::GuardChanges;
 use crate::known::{Stacks, alike_modules, known_answers};
 use crate::modules::ModuleChanges;
 use crate::sides::Sides;
@@ -60,6 +61,7 @@ pub struct StackPair {
     pub new: Stack,
     pub matching: Matching,
     pub modules: ModuleChanges,
+    pub guards: GuardChanges,
     pub decisions: Decisions,
 }
 
@@ -209,6 +211,12 @@ impl StackPair {
         } = stacks;
         let matching = matching_of(alloc, &old, &new)?;
         let modules = ModuleChanges::of(alloc, &old, &new, &matching)?;
+        let stacks = Stacks {
+            kind,
+            old: &old,
+            new: &new,
+        };
+        let guards = GuardChanges::of(alloc, sides, stacks, &modules)?;
         let matched = Matched {
             kind,
             old: &old,
@@ -223,6 +231,7 @@ impl StackPair {
             new,
             matching,
             modules,
+            guards,
             decisions,
         })
     }
