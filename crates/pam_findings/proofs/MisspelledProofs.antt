@@ -1,3 +1,4 @@
+pub mod Feeds
 pub mod LaterWords
 pub mod NearestActions
 pub mod NearestNames

@@ -1,5 +1,6 @@
 pub mod About
 pub mod Actions
+pub mod Cursors
 pub mod Findings
 pub mod Laws
 pub mod Lines

@@ -41,7 +41,7 @@ mod walk;
 mod way_in;
 
 pub use level::Level;
-pub(crate) use links::is_outside;
+pub use links::is_outside;
 pub use met::Met;
 pub use missing_files::{Absence, may_name_file};
 pub use problem::{ArgumentProblem, Place, Problem, Spot};

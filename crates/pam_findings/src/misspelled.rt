@@ -15,7 +15,9 @@ mod right_words;
 mod spot;
 mod word;
 
+pub use cursor::{Cursor, after_feeds};
 pub use findings::misspelled_words;
+pub use offsets::line_len;
 pub use right_words::MAX_NAMES;
 pub use spot::Spot;
 pub use word::Misspelled;

@@ -19,7 +19,7 @@ use Rattle.pam_findings.specs.misspelled.Pieces.{first_end, first_start, piece_a
 
 -- THE PIECES AFTER THE FIRST
 
--- after the blanks stands the first piece, and what is left has the other pieces
+-- the first piece comes after the blanks, and what is left has the other pieces
 pub record IsCut (pieces : List ℕ → List (List ℕ)) (text piece : List ℕ) (others : List (List ℕ)) : Type 0 where
   pub within : first_start pieces text + length piece ≤ length text
   pub after : pieces (drop (first_start pieces text + length piece) text) ≡ others

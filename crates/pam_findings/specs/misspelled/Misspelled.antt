@@ -1,6 +1,8 @@
 -- The word of a line that a finding is about, with the nearest right word if it is wrong.
-use Rattle.std.specs.Prelude.{ℕ, List, [], Option, None}
+use Rattle.std.specs.Prelude.{ℕ, Bool, true, false, if◌then◌else◌, List, [], Option, None}
+use Rattle.std.specs.List.{list_any}
 use Rattle.std.specs.Option.{option_and_then, option_map}
+use Rattle.std.specs.Str.{bytes_eq}
 use Rattle.pam_facts.specs.arguments.Modules.{nearest_argument}
 use Rattle.pam_facts.specs.arguments.Table.{module_named}
 use Rattle.pam_codes.specs.declared.error.ControlError.TheVariants.{BadControl}
@@ -19,17 +21,20 @@ use Rattle.pam_findings.specs.declared.misspelled.spot.Spot.{Spot}
 use Rattle.pam_findings.specs.declared.misspelled.word.Wrong.{Wrong}
 use Rattle.pam_findings.specs.declared.misspelled.word.Wrong.TheVariants.{Argument, Fault, NoModule, Path, Target}
 
--- a word, the name of the module of which it is an argument, if it is one, the nearest right word, and where it stands in its file
+-- a word; the name of the module that it is an argument of, if it is one; the nearest right word; whether it is the name of a link that
+-- leads nowhere; and its spot in the file
 pub record MisspelledText : Type 0 where
   pub of : List ℕ
   pub word : List ℕ
   pub nearest : Option (List ℕ)
+  pub leads_nowhere : Bool
   pub spot : Option Spot
 
--- the names of files, and the modules that are there
+-- the names of files, the modules that are there, and the names of links that lead nowhere
 pub record Right : Type 0 where
   pub files : List (List ℕ)
   pub modules : List (List ℕ)
+  pub dead : List (List ℕ)
 
 -- the word of a fault: of one in brackets, a word of the control
 abbrev pub fault_word : Form → FaultKind → List ℕ → Option (List ℕ)
@@ -48,8 +53,19 @@ nearest_to right (Fault fault) word = nearest_right right.files fault word
 nearest_to right NoModule path = nearest_module right.modules path
 nearest_to right why word = None
 
+-- the name of a link that leads nowhere, which is spelled right
+abbrev pub dead_link : List ℕ → MisspelledText
+dead_link name = record { of = []; word = name; nearest = None; leads_nowhere = true; spot = None }
+
+-- the name of a target that is not there may be that of such a link
+abbrev pub is_dead : Right → Wrong → List ℕ → Bool
+is_dead right (Fault NoService) name = list_any (bytes_eq name) right.dead
+is_dead right why word = false
+
 abbrev pub with_nearest : Right → Wrong → List ℕ → MisspelledText
-with_nearest right wrong word = record { of = []; word = word; nearest = nearest_to right wrong word; spot = None }
+with_nearest right wrong word =
+    if is_dead right wrong word then dead_link word
+    else record { of = []; word = word; nearest = nearest_to right wrong word; leads_nowhere = false; spot = None }
 
 -- the nearest of the arguments that the module at a path knows
 abbrev pub nearest_known : List ℕ → List ℕ → Option (List ℕ)
@@ -66,17 +82,18 @@ nearest_by Weak path word = None
 nearest_by (MissingFile absence) path word = None
 
 abbrev pub of_argument : ArgumentProblem → List ℕ → List ℕ → MisspelledText
-of_argument wrong path word = record { of = name_of_path path; word = word; nearest = nearest_by wrong path word; spot = None }
+of_argument wrong path word =
+    record { of = name_of_path path; word = word; nearest = nearest_by wrong path word; leads_nowhere = false; spot = None }
 
 abbrev pub misspelled_argument : Form → ℕ → ArgumentProblem → List ℕ → Option MisspelledText
 misspelled_argument form position wrong line =
     option_and_then (λ path. option_map (of_argument wrong path) (argument_in form position line)) (path_in form line)
 
--- THE WORD of a line that a finding is about, wherever it stands
+-- THE WORD of a line that a finding is about, without its spot
 abbrev pub misspelled_in : Right → Form → Wrong → List ℕ → Option MisspelledText
 misspelled_in right form (Argument position wrong) line = misspelled_argument form position wrong line
 misspelled_in right form why line = option_map (with_nearest right why) (wrong_word form why line)
 
 -- the same with its spot
 abbrev pub with_spot : Option Spot → MisspelledText → MisspelledText
-with_spot spot m = record { of = m.of; word = m.word; nearest = m.nearest; spot = spot }
+with_spot spot m = record { of = m.of; word = m.word; nearest = m.nearest; leads_nowhere = m.leads_nowhere; spot = spot }

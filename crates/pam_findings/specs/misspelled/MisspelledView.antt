@@ -4,4 +4,10 @@ use Rattle.pam_findings.specs.misspelled.Misspelled.{MisspelledText}
 use Rattle.pam_findings.specs.declared.misspelled.word.Misspelled.{Misspelled}
 
 abbrev pub misspelled_view : Misspelled → MisspelledText
-misspelled_view m = record { of = m.module.items; word = m.word.items; nearest = option_map (λ word. word.items) m.nearest; spot = m.spot }
+misspelled_view m = record {
+  of = m.module.items;
+  word = m.word.items;
+  nearest = option_map (λ word. word.items) m.nearest;
+  leads_nowhere = m.leads_nowhere;
+  spot = m.spot;
+}

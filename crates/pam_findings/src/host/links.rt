@@ -12,7 +12,7 @@ use pam_conf::Stack;
 use std::alloc::AllocError;
 
 /// Whether the file at a position is such a link.
-pub(crate) fn is_outside(outside: &[bool], file: Option<usize>) -> bool
+pub fn is_outside(outside: &[bool], file: Option<usize>) -> bool
     ensures { result ≡ is_outside outside.now file }
 {
     match file {

@@ -2,8 +2,8 @@
 
 ghost use Rattle.std.specs.Prelude.{◌≡◌, ◌≤◌, ◌-◌};
 ghost use Rattle.pam_findings.specs.misspelled.Lines.{bytes_of};
-ghost use Rattle.pam_findings.specs.misspelled.Spots.{after_feed, from_line};
-ghost use Rattle.pam_findings.specs.misspelled.inner.Cursors.{IsAt};
+ghost use Rattle.pam_findings.specs.misspelled.Spots.{after_feed, after_feeds, from_line};
+ghost use Rattle.pam_findings.specs.misspelled.Cursors.{IsAt};
 
 use crate::misspelled::offsets::line_len;
 use crate::misspelled::reader::source_of;
@@ -11,7 +11,7 @@ use pam_conf::{Files, Form};
 
 /// The bytes of a file after some of its line feeds.
 #[derive(Drop)]
-pub(crate) struct Cursor<'a> {
+pub struct Cursor<'a> {
     files: &'a Files,
     /// The position of the file; `None` for no file, which has no bytes.
     file: Option<usize>,
@@ -31,10 +31,22 @@ fn after_feed(bytes: &[u8]) -> &[u8]
     bytes.split_at(len + 1).1
 }
 
+/// The bytes after this many line feeds.
+#[tactic(auto, unfolding(crate::specs::misspelled::Spots::after_feeds))]
+pub fn after_feeds(count: usize, bytes: &[u8]) -> &[u8]
+    ensures { result.now ≡ after_feeds count bytes.now }
+{
+    let mut rest = bytes;
+    for _ in 0..count {
+        rest = after_feed(rest);
+    }
+    rest
+}
+
 impl<'a> Cursor<'a> {
     /// Is in no file yet.
     #[tactic(auto, unfolding(crate::specs::misspelled::Spots::after_feeds))]
-    pub(crate) fn new(files: &'a Files) -> Cursor<'a>
+    pub fn new(files: &'a Files) -> Cursor<'a>
         ensures at { IsAt result }
         ensures same { result.files.now ≡ files.now }
     {
@@ -79,7 +91,7 @@ impl<'a> Cursor<'a> {
     }
 
     /// Goes on to a line of a file, or from the beginning of this file if the line was passed.
-    pub(crate) fn seek(&mut self, file: Option<usize>, number: usize)
+    pub fn seek(&mut self, file: Option<usize>, number: usize)
         requires { IsAt self.old }
         ensures at { IsAt self.new }
         ensures same { self.new.files ≡ self.old.files }
@@ -93,7 +105,7 @@ impl<'a> Cursor<'a> {
         }
     }
 
-    pub(crate) fn rest(&self) -> &'a [u8]
+    pub fn rest(&self) -> &'a [u8]
         ensures { result.now ≡ self.now.rest.now }
     {
         self.rest

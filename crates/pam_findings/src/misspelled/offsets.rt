@@ -13,7 +13,7 @@ struct Ahead<'a> {
 }
 
 /// The number of bytes before the first line feed.
-pub(crate) fn line_len(bytes: &[u8]) -> usize
+pub fn line_len(bytes: &[u8]) -> usize
     ensures value { result ≡ line_len bytes.now }
     ensures bound { result ≤ length bytes.now }
 {

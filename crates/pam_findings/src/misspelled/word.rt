@@ -1,8 +1,11 @@
 //! The word of a line that a finding is about.
 
-ghost use Rattle.std.specs.Prelude.{◌≡◌, IfOk};
-ghost use Rattle.std.specs.Option.{option_map};
-ghost use Rattle.pam_findings.specs.misspelled.Misspelled.{fault_word, misspelled_argument, misspelled_in, nearest_by, nearest_known, nearest_to};
+ghost use Rattle.std.specs.Prelude.{◌≡◌, [], IfOk};
+ghost use Rattle.std.specs.List.{list_any};
+ghost use Rattle.std.specs.Option.{option_map, option_map_or};
+ghost use Rattle.std.specs.Str.{bytes_eq};
+ghost use Rattle.pam_findings.specs.misspelled.Misspelled.{dead_link, fault_word, is_dead, misspelled_argument, misspelled_in, nearest_by};
+ghost use Rattle.pam_findings.specs.misspelled.Misspelled.{nearest_known, nearest_to};
 ghost use Rattle.pam_findings.specs.misspelled.Misspelled.{of_argument, with_nearest, wrong_word};
 ghost use Rattle.pam_findings.specs.misspelled.MisspelledView.{misspelled_view};
 ghost use Rattle.pam_findings.specs.misspelled.inner.MisspelledView.{right_view};
@@ -13,7 +16,7 @@ use crate::misspelled::path::{argument_in, path_in};
 use crate::misspelled::right_words::{nearest_module, nearest_right};
 use crate::misspelled::spot::Spot;
 use pam_codes::ControlError;
-use pam_conf::{FaultKind, Form, word_at_fault};
+use pam_conf::{FaultKind, Form, NameList, word_at_fault};
 use pam_facts::arguments::Arguments;
 use pam_facts::known::name_of_path;
 use pam_facts::module_name;
@@ -34,11 +37,12 @@ pub(crate) enum Wrong {
     Argument(usize, ArgumentProblem),
 }
 
-/// The names of files, the modules that are there, and the arguments that modules know.
+/// The names of files, the modules that are there, the names of links that lead nowhere, and the arguments that modules know.
 #[derive(Drop)]
 pub(crate) struct RightNames<'a> {
     pub files: Vec<&'a [u8]>,
     pub modules: Vec<&'a [u8]>,
+    pub dead: Option<&'a NameList>,
     pub arguments: &'a Arguments,
 }
 
@@ -51,7 +55,9 @@ pub struct Misspelled {
     pub word: Vec<u8>,
     /// The nearest right word, if it is wrong and one is near.
     pub nearest: Option<Vec<u8>>,
-    /// Where it stands in its file.
+    /// Whether it is the name of a file that is a link which leads nowhere.
+    pub leads_nowhere: bool,
+    /// The place of the word in its file.
     pub spot: Option<Spot>,
 }
 
@@ -79,7 +85,40 @@ fn nearest_to<'a>(
     }
 }
 
-/// A word that is wrong, with the nearest right word.
+/// The name of a link that leads nowhere.
+pub(crate) fn dead_link(alloc: Global, name: &[u8]) -> Result<Misspelled, AllocError>
+    ensures { IfOk result (λ m. misspelled_view m ≡ dead_link name.now) }
+{
+    Ok(Misspelled {
+        module: Vec::new(alloc),
+        word: Vec::from_slice(alloc, name)?,
+        nearest: None,
+        leads_nowhere: true,
+        spot: None,
+    })
+}
+
+/// Whether a name is among these, if any are known.
+pub(crate) fn is_among(names: Option<&NameList>, name: &[u8]) -> bool
+    ensures { result ≡ list_any (bytes_eq name.now) (option_map_or (λ n. n.now) names.entry []) }
+{
+    match names {
+        Some(names) => names.has(name),
+        None => false,
+    }
+}
+
+/// Whether a word is the name of a target that is a link which leads nowhere.
+fn is_dead(right: &RightNames<'_>, wrong: Wrong, word: &[u8]) -> bool
+    ensures { result ≡ is_dead (right_view right.now) wrong word.now }
+{
+    match wrong {
+        Wrong::Fault(FaultKind::NoService) => is_among(right.dead, word),
+        _ => false,
+    }
+}
+
+/// A word that is wrong, with the nearest right word, or the name of a link that leads nowhere.
 fn with_nearest(
     alloc: Global,
     right: &RightNames<'_>,
@@ -88,11 +127,15 @@ fn with_nearest(
 ) -> Result<Misspelled, AllocError>
     ensures { IfOk result (λ m. misspelled_view m ≡ with_nearest (right_view right.now) wrong word.now) }
 {
+    if is_dead(right, wrong, word) {
+        return dead_link(alloc, word);
+    }
     let nearest = owned_if_any(alloc, nearest_to(alloc, right, wrong, word)?)?;
     Ok(Misspelled {
         module: Vec::new(alloc),
         word: Vec::from_slice(alloc, word)?,
         nearest,
+        leads_nowhere: false,
         spot: None,
     })
 }
@@ -187,6 +230,7 @@ fn of_argument(
         module: Vec::from_slice(alloc, name_of_path(path))?,
         word: Vec::from_slice(alloc, word)?,
         nearest,
+        leads_nowhere: false,
         spot: None,
     })
 }

@@ -1,8 +1,8 @@
-use Rattle.std.proofs.Common.{◌≡◌, map, take}
-use Rattle.std.specs.Option.{option_map}
+use Rattle.std.proofs.Common.{◌≡◌, [], map, take}
+use Rattle.std.specs.Option.{option_map, option_map_or}
 use Rattle.pam_findings.specs.misspelled.Findings.{misspelled_at}
 use Rattle.pam_findings.specs.misspelled.MisspelledView.{misspelled_view}
-use Rattle.pam_findings.specs.misspelled.inner.Cursors.{IsAt}
+use Rattle.pam_findings.specs.misspelled.Cursors.{IsAt}
 use Rattle.pam_findings.specs.misspelled.inner.Reading.{IsReading}
 use Rattle.pam_findings.proofs.misspelled.findings.misspelled_words.Given as goal
 
@@ -13,5 +13,6 @@ invariant-loop-entry l = record {
   same : l.reader.files.now ≡ l.files;
   at : IsAt l.cursor;
   still : l.cursor.files.now ≡ l.files;
-  words : map (option_map misspelled_view) l.words.items ≡ map (misspelled_at l.files (option_map (λ t. t.now) l.there) l.outside) (take l.entry-index l.found);
+  words : map (option_map misspelled_view) l.words.items ≡ map (misspelled_at l.files (option_map (λ t. t.now) l.there) l.outside
+      (option_map_or (λ d. d.now) l.dead [])) (take l.entry-index l.found);
 }

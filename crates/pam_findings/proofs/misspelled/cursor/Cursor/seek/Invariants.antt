@@ -1,6 +1,6 @@
 -- line feeds are passed one by one
 use Rattle.std.proofs.Common.{◌≡◌, ◌≤◌, ◌-◌}
-use Rattle.pam_findings.specs.misspelled.inner.Cursors.{IsAt}
+use Rattle.pam_findings.specs.misspelled.Cursors.{IsAt}
 use Rattle.pam_findings.proofs.misspelled.cursor.Cursor.seek.Given as goal
 
 abbrev pub invariant-loop-self : goal.invariant-loop-self

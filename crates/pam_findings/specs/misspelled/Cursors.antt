@@ -1,4 +1,4 @@
--- For private contracts and proofs alone: bytes of a file after some of its line feeds.
+-- Bytes of a file after some of its line feeds.
 use Rattle.std.specs.Prelude.{◌≡◌}
 use Rattle.pam_findings.specs.misspelled.Lines.{bytes_of}
 use Rattle.pam_findings.specs.misspelled.Spots.{after_feeds}
