@@ -34,6 +34,7 @@ pub record LoginText : Type 0 where
 pub record AccessTask : Type 0 where
   pub tables : List Text
   pub groups : Option Text
+  pub passwd : Option Text
   pub login : LoginText
   pub arguments : List Text
 
@@ -54,6 +55,7 @@ pub record KnowledgeText : Type 0 where
   pub access : List Text
   pub time : Option Text
   pub groups : Option Text
+  pub passwd : Option Text
   pub returns : Option Text
   pub settings : List SettingText
   pub moment : Option MomentText

@@ -94,7 +94,7 @@ abbrev pub moment_if_needed : List Row → Result (Option MomentText) Refusal
 moment_if_needed rows =
     if needs_moment rows then or_refuse (moment_of rows) moment (λ at. Ok (Some at)) else Ok None
 
--- folders of modules, a login and a moment, tables, a returns file, the codes of modules, and what others may return
+-- folders of modules, a login and a moment, tables, a passwd file, a returns file, the codes of modules, and what others may return
 abbrev pub knowledge_of : AnswersText → List Row → Result KnowledgeText Refusal
 knowledge_of answers rows =
     settings_of rows >>= λ settings.
@@ -106,6 +106,7 @@ knowledge_of answers rows =
       access = texts_of (codes "access") rows;
       time = first_of (codes "time") rows;
       groups = first_of (codes "group") rows;
+      passwd = first_of (codes "passwd") rows;
       returns = first_of (codes "returns") rows;
       settings = settings;
       moment = at;
@@ -153,6 +154,7 @@ abbrev pub access_task : List Row → Result TaskText Refusal
 access_task rows = Ok (access (record {
   tables = texts_of (codes "access") rows;
   groups = first_of (codes "group") rows;
+  passwd = first_of (codes "passwd") rows;
   login = login_of rows;
   arguments = texts_of (codes "argument") rows;
 }))

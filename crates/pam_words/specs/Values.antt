@@ -20,7 +20,7 @@ use Rattle.pam_words.specs.declared.wanted.GraphFormat.TheVariants.{Dot, Mermaid
 use Rattle.pam_words.specs.declared.wanted.LevelName.{LevelName}
 use Rattle.pam_words.specs.declared.wanted.LevelName.TheVariants.{Error, Warning, Note}
 use Rattle.pam_words.specs.declared.wanted.OutputForm.{OutputForm}
-use Rattle.pam_words.specs.declared.wanted.OutputForm.TheVariants.{Json, PlainText, Sarif}
+use Rattle.pam_words.specs.declared.wanted.OutputForm.TheVariants.{Full, Json, PlainText, Sarif}
 use Rattle.pam_words.specs.declared.wanted.PathFilter.{PathFilter}
 use Rattle.pam_words.specs.declared.wanted.PathFilter.TheVariants.{All, Decides, Asks}
 use Rattle.pam_words.specs.declared.wanted.ReleaseName.{ReleaseName}
@@ -209,6 +209,7 @@ json_or_text rows = if is_on (codes "json") rows then Json else PlainText
 abbrev pub form_named : Text → Option OutputForm
 form_named name =
     if bytes_eq name (codes "short") then Some PlainText
+    else if bytes_eq name (codes "full") then Some Full
     else if bytes_eq name (codes "json") then Some Json
     else if bytes_eq name (codes "sarif") then Some Sarif
     else None

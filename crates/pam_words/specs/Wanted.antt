@@ -62,6 +62,7 @@ knowledge_view k = record {
   access = map (λ s. s.now) k.tables.access.items;
   time = option_copied k.tables.time;
   groups = option_copied k.tables.groups;
+  passwd = option_copied k.passwd;
   returns = option_copied k.returns;
   settings = map setting_view k.settings.items;
   moment = option_map moment_view k.moment;
@@ -92,9 +93,10 @@ task_view (Compare old new service kind given) = spec.compare (record {
 })
 task_view (Show source kind release) = spec.show (record { source = source_view source; kind = kind; release = release })
 task_view (Decide source kind codes) = spec.decide (source_view source) kind codes.items
-task_view (Access tables groups login arguments) = spec.access (record {
+task_view (Access tables groups passwd login arguments) = spec.access (record {
   tables = map (λ s. s.now) tables.items;
   groups = option_copied groups;
+  passwd = option_copied passwd;
   login = login_view login;
   arguments = arguments;
 })

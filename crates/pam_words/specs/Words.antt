@@ -145,7 +145,7 @@ abbrev pub with_login : App → App
 with_login app = with_options app (codes "user" ∷ codes "rhost" ∷ codes "tty" ∷ [])
 
 abbrev pub with_tables : App → App
-with_tables app = with_options (with_access app) (codes "time" ∷ codes "group" ∷ codes "returns" ∷ [])
+with_tables app = with_options (with_access app) (codes "time" ∷ codes "group" ∷ codes "passwd" ∷ codes "returns" ∷ [])
 
 abbrev pub with_moment : App → App
 with_moment app = with_options app (codes "at" ∷ codes "at-unix" ∷ codes "zone" ∷ [])
@@ -191,7 +191,7 @@ login_app name looked_up =
 unfoldable pub access_app : App
 access_app =
     with_rule (with_json (with_options (login_app (codes "access") (required_options_rule (codes "access")))
-    (codes "group" ∷ codes "rhost" ∷ []))) (repeated_rule (codes "argument"))
+    (codes "group" ∷ codes "passwd" ∷ codes "rhost" ∷ []))) (repeated_rule (codes "argument"))
 
 -- `time SERVICE`
 unfoldable pub time_app : App

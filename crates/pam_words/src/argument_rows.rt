@@ -227,7 +227,7 @@ pub(crate) const OUTPUT_FORMAT: ArgRow = ArgRow {
     form: ArgForm::Optional,
     id: "format",
     name: "FORM",
-    help: "short (for people), json (as --json) or sarif (for code scanning); short if left out",
+    help: "short (for people), full (with the lines of files), json (as --json) or sarif (for code scanning); short if left out",
 };
 
 pub(crate) const ANSWERS: ArgRow = ArgRow {
@@ -277,6 +277,13 @@ pub(crate) const GROUP: ArgRow = ArgRow {
     id: "group",
     name: "FILE",
     help: "The group file",
+};
+
+pub(crate) const PASSWD: ArgRow = ArgRow {
+    form: ArgForm::Optional,
+    id: "passwd",
+    name: "FILE",
+    help: "The passwd file, whose users are also in their primary groups",
 };
 
 pub(crate) const RETURNS: ArgRow = ArgRow {

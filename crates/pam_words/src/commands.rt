@@ -3,7 +3,7 @@
 use crate::arguments::Argument::{
     self, Accept, Access, AccessTables, After, Answers, AreFiles, AreRoots, Asks, At, AtUnix,
     Before, Conf, Decision, Dir, Facts, FailOn, Format, Group, HostAccess, HostTime, Json, Limit,
-    Modules, OutputFormat, Release, Returns, Rhost, Root, Set, SetByName, TableUser, Time,
+    Modules, OutputFormat, Passwd, Release, Returns, Rhost, Root, Set, SetByName, TableUser, Time,
     TimeTable, Tty, User, VendorDir, With, Zone,
 };
 use crate::arguments::Word;
@@ -91,7 +91,7 @@ pub(crate) static HOSTS: [CommandRow; 3] = [
         examples: examples::POLICY,
         args: &[
             POLICIES, Dir, VendorDir, Conf, Root, With, Json, FailOn, Facts, Modules, User, Rhost,
-            Tty, Access, Time, Group, Returns, SetByName, At, AtUnix, Zone,
+            Tty, Access, Time, Group, Passwd, Returns, SetByName, At, AtUnix, Zone,
         ],
     },
 ];
@@ -129,7 +129,8 @@ pub(crate) static LISTINGS: [CommandRow; 1] = [CommandRow {
     examples: examples::PATHS,
     args: &[
         SERVICE, KIND, Dir, VendorDir, Conf, Root, With, Json, Limit, After, Before, Decision,
-        Asks, Modules, User, Rhost, Tty, Access, Time, Group, Returns, Set, At, AtUnix, Zone,
+        Asks, Modules, User, Rhost, Tty, Access, Time, Group, Passwd, Returns, Set, At, AtUnix,
+        Zone,
     ],
 }];
 
@@ -141,7 +142,7 @@ pub(crate) static GRAPHS: [CommandRow; 3] = [
         examples: examples::OUTCOMES,
         args: &[
             SERVICE, KIND, Dir, VendorDir, Conf, Root, With, Json, Answers, Facts, Modules, User,
-            Rhost, Tty, Access, Time, Group, Returns, Set, At, AtUnix, Zone,
+            Rhost, Tty, Access, Time, Group, Passwd, Returns, Set, At, AtUnix, Zone,
         ],
     },
     CommandRow {
@@ -150,7 +151,7 @@ pub(crate) static GRAPHS: [CommandRow; 3] = [
         examples: examples::GRAPH,
         args: &[
             SERVICE, KIND, Dir, VendorDir, Conf, Root, With, Format, Answers, Facts, Modules, User,
-            Rhost, Tty, Access, Time, Group, Returns, Set, At, AtUnix, Zone,
+            Rhost, Tty, Access, Time, Group, Passwd, Returns, Set, At, AtUnix, Zone,
         ],
     },
     CommandRow {
@@ -159,7 +160,7 @@ pub(crate) static GRAPHS: [CommandRow; 3] = [
         examples: examples::NEEDS,
         args: &[
             SERVICE, KIND, Dir, VendorDir, Conf, Root, With, Json, Facts, Modules, User, Rhost,
-            Tty, Access, Time, Group, Returns, SetByName, At, AtUnix, Zone,
+            Tty, Access, Time, Group, Passwd, Returns, SetByName, At, AtUnix, Zone,
         ],
     },
 ];
@@ -176,6 +177,7 @@ pub(crate) static LOOKUPS: [CommandRow; 2] = [
             TableUser,
             Tty,
             Group,
+            Passwd,
             Rhost,
             Json,
             ARGUMENTS,

@@ -248,6 +248,7 @@ fn access<'a>(alloc: Global, matches: &ArgMatches<'a>) -> Result<Task<'a>, Usage
         Ok(arguments) => Ok(Task::Access {
             tables,
             groups: value(matches, "group"),
+            passwd: value(matches, "passwd"),
             login: login(matches),
             arguments,
         }),

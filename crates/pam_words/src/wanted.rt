@@ -32,6 +32,8 @@ pub enum LevelName {
 pub enum OutputForm {
     /// Text for people.
     PlainText,
+    /// The same with the lines of the files that findings are about, of `check` alone.
+    Full,
     /// JSON Lines.
     Json,
     /// One document in SARIF 2.1.0, of `check` alone.
@@ -140,6 +142,9 @@ pub struct KnowledgeSource<'a> {
     pub login: Login<'a>,
     /// With `ConfSource::Root`, those of the system are read where none is named and the login and the moment that they need are given.
     pub tables: TableNames<'a>,
+    /// The passwd file, whose users are in the groups of their numbers too. With `ConfSource::Root`, that of the system is read where none
+    /// is named and the login is given.
+    pub passwd: Option<&'a str>,
     pub returns: Option<&'a str>,
     /// In the order in which they are given: of several for one module, the last counts.
     pub settings: Vec<Setting<'a>>,
@@ -208,6 +213,8 @@ pub enum Task<'a> {
     Access {
         tables: Vec<&'a str>,
         groups: Option<&'a str>,
+        /// The passwd file, whose users are in the groups of their numbers too.
+        passwd: Option<&'a str>,
         login: Login<'a>,
         arguments: Texts,
     },

@@ -29,6 +29,8 @@ fn form_named(name: &str) -> Option<OutputForm>
 {
     if name == "short" {
         Some(OutputForm::PlainText)
+    } else if name == "full" {
+        Some(OutputForm::Full)
     } else if name == "json" {
         Some(OutputForm::Json)
     } else if name == "sarif" {

@@ -101,7 +101,8 @@ fn answers<'a>(matches: &ArgMatches<'a>) -> Option<Answers<'a>>
     }
 }
 
-/// Reads the codes of modules, the login and the moment, and the names of the folders of modules, of the tables and of the returns file.
+/// Reads the codes of modules, the login and the moment, and the names of the folders of modules, of the tables, of the passwd
+/// file and of the returns file.
 pub(crate) fn knowledge<'a>(
     alloc: Global,
     matches: &ArgMatches<'a>,
@@ -127,6 +128,7 @@ pub(crate) fn knowledge<'a>(
         modules,
         login: login(matches),
         tables,
+        passwd: value(matches, "passwd"),
         returns: value(matches, "returns"),
         settings,
         moment,
