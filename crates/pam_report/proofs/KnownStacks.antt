@@ -161,6 +161,7 @@ module _ (IsAnswerOf : Items → Allowance → Answer → Type 0) (told : Result
   fault-found faults.NoSuchNumber h = from-err faults.NoSuchNumber h
   fault-found faults.NoSuchService h = from-err faults.NoSuchService h
   fault-found faults.UnusedCandidate h = from-err faults.UnusedCandidate h
+  fault-found faults.Unread h = from-err faults.Unread h
   fault-found (faults.Moment e) h = from-err (faults.Moment e) h
   fault-found (faults.Cursor e) h = absurd h
   fault-found (faults.Table e) h = from-table e e.error.fault h

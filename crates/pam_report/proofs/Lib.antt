@@ -11,6 +11,7 @@ pub mod KnownStacks
 pub mod NeedsAnswers
 pub mod OutcomeLists
 pub mod PageParts
+pub mod PasswdSteps
 pub mod PolicyAnswers
 pub mod PolicySteps
 pub mod ReleasedRules

@@ -119,6 +119,7 @@ module _ (IsAnswer Weaker : Answer → Type 0) (weaken : (answer : Answer) → I
   refuses-more faults.NoSuchNumber h = weaken (Err faults.NoSuchNumber) h
   refuses-more faults.NoSuchService h = weaken (Err faults.NoSuchService) h
   refuses-more faults.UnusedCandidate h = weaken (Err faults.UnusedCandidate) h
+  refuses-more faults.Unread h = weaken (Err faults.Unread) h
   refuses-more (faults.Moment e) h = weaken (Err (faults.Moment e)) h
   refuses-more (faults.Cursor e) h = absurd h
   refuses-more (faults.Table e) h = table-more e e.error.fault h

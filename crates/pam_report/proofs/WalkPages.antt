@@ -40,6 +40,7 @@ module _ (paging : Paging) (graph : GraphValue) (goal : Goal) where
   part-listed (Err faults.NoSuchNumber) part listed to h are = absurd are
   part-listed (Err faults.NoSuchService) part listed to h are = absurd are
   part-listed (Err faults.UnusedCandidate) part listed to h are = absurd are
+  part-listed (Err faults.Unread) part listed to h are = absurd are
   part-listed (Err (faults.Facts e)) part listed to h are = absurd are
   part-listed (Err (faults.Policy e)) part listed to h are = absurd are
   part-listed (Err (faults.Accept e)) part listed to h are = absurd are
@@ -113,6 +114,7 @@ module _ (paging : Paging) (graph : GraphValue) (goal : Goal) where
   refused-listed K part one faults.NoSuchNumber same h = absurd h
   refused-listed K part one faults.NoSuchService same h = absurd h
   refused-listed K part one faults.UnusedCandidate same h = absurd h
+  refused-listed K part one faults.Unread same h = absurd h
   refused-listed K part one (faults.Facts e) same h = absurd h
   refused-listed K part one (faults.Policy e) same h = absurd h
   refused-listed K part one (faults.Accept e) same h = absurd h

@@ -38,7 +38,7 @@ use Rattle.pam_report.specs.Compare.{IsCompare}
 use Rattle.pam_report.specs.Decide.{asked_modules}
 use Rattle.pam_report.specs.Fault.{table_fault}
 use Rattle.pam_report.specs.Graph.{IsGraphReply}
-use Rattle.pam_report.specs.Inputs.{access_given, files_given, group_file, groups_in, no_files, there_given, time_given}
+use Rattle.pam_report.specs.Inputs.{access_given, files_given, group_file, groups_in, no_files, there_given, time_given, unread_given}
 use Rattle.pam_report.specs.KnownStack.{KnownItems, facts_asked, known_stack, with_facts}
 use Rattle.pam_report.specs.Finds.{Finds}
 use Rattle.pam_report.specs.Memory.{WantsOnly, wants}
@@ -51,7 +51,8 @@ use Rattle.pam_report.specs.Released.{released}
 use Rattle.pam_report.specs.Reply.{Answer, Reply as ReplyValue, RunValue, Released, Run, Stacks}
 use Rattle.pam_report.specs.Reply.{Explained, Explanations}
 use Rattle.pam_report.specs.Reply.{Access as AccessReply, Facts as FactsReply, Time as TimeReply, Version as VersionReply}
-use Rattle.pam_report.specs.Services.{IfServices, has_service, has_services, sides_have}
+use Rattle.pam_report.specs.Left.{IfAllRead, has_unread, services_left}
+use Rattle.pam_report.specs.Services.{IfServices, has_asked, has_service, sides_have}
 use Rattle.pam_report.specs.Settings.{with_settings}
 use Rattle.pam_report.specs.Show.{for_each, kinds_shown, stack_in}
 use Rattle.pam_report.specs.declared.inputs.Inputs.{Inputs}
@@ -159,7 +160,7 @@ module _ (Gives : (Answer → Type 0) → Type 0) where
   AnswersBy service candidates (Show source kind release) files inputs = Gives (λ answer. shown_by release service kind files ≡ answer)
   AnswersBy service candidates (Decide source kind answered) files inputs =
       Gives (λ answer. with_stack (resolved files service kind) (decided_by service kind answered.items) ≡ answer)
-  AnswersBy service candidates (Access names groups login arguments) files inputs =
+  AnswersBy service candidates (Access names groups passwd login arguments) files inputs =
       Gives (λ answer. looked_up (login_at service login) arguments (map (λ s. s.now) names.items) inputs ≡ answer)
   AnswersBy service candidates (Time table login moment) files inputs =
       (at : Result DateTime MomentError) × IsMoment moment at
@@ -183,8 +184,10 @@ module _ (Gives : (Answer → Type 0) → Type 0) where
         moment = at;
       }) files inputs))
   AnswersBy service candidates (Check source services fail_on named) files inputs =
-      Gives (IfServices (has_services files services)
-      (IfUsed (first_unused files services candidates) (IsCheck services fail_on named files inputs)))
+      Gives (IfServices (has_asked files services)
+      (IfUsed (first_unused files services candidates)
+      (IfAllRead (has_unread (unread_given inputs)) services (services_left files (unread_given inputs) services)
+      (λ checked. IsCheck checked fail_on named files inputs))))
   AnswersBy service candidates (Compare old new named kind given) files inputs =
       Gives (IfServices (sides_have inputs (option_copied named))
       (IsCompare (option_copied named) kind (map setting_view given.settings.items) inputs))

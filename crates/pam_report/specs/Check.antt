@@ -1,5 +1,5 @@
 -- The reply of `check`: what is wrong with the host.
-use Rattle.std.specs.Prelude.{◌≡◌, ◌<◌, ℕ, All, List, [], length, map, Option, Result, Ok, Err, unwrap_or}
+use Rattle.std.specs.Prelude.{◌≡◌, ◌<◌, ℕ, All, List, [], if◌then◌else◌, length, map, Option, Result, Ok, Err, unwrap_or}
 use Rattle.std.specs.BTreeMap.{BTreeMap}
 use Rattle.std.specs.Option.{option_copied}
 use Rattle.pam_findings.specs.accepted.Lines.{Accepted, accepted_lines}
@@ -26,9 +26,10 @@ use Rattle.pam_words.specs.declared.wanted.CheckFiles.{CheckFiles}
 use Rattle.pam_words.specs.declared.wanted.LevelName.{LevelName}
 use Rattle.pam_report.specs.Accepting.{all_keys, lines_without, not_accepted, table_findings, tables_not_accepted}
 use Rattle.pam_report.specs.Fault.{accept_fault, facts_fault}
-use Rattle.pam_report.specs.Inputs.{accept_given, facts_given, host_tables_given, named_files_given, outside_given, paths_given, table_paths_given, there_given}
-use Rattle.pam_report.specs.Inputs.{vendor_start_given}
+use Rattle.pam_report.specs.Inputs.{accept_given, dead_given, facts_given, files_given, host_tables_given, named_files_given, no_files}
+use Rattle.pam_report.specs.Inputs.{outside_given, paths_given, table_paths_given, there_given, unread_given, vendor_start_given}
 use Rattle.pam_report.specs.Reply.{Answer, Check, CheckValue}
+use Rattle.pam_report.specs.Left.{has_unread}
 use Rattle.pam_report.specs.Unused.{idle_rows, unused_lines}
 use Rattle.pam_report.specs.declared.inputs.Inputs.{Inputs}
 
@@ -38,6 +39,8 @@ module _ (services : List (List ℕ)) (fail_on : LevelName) (named : CheckFiles)
   -- that say nothing
   pub record IsCheckOf (facts : List Row) (lines : List Accepted) (value : CheckValue) : Type 0 where
     pub same_form : value.form ≡ files.form
+    pub same_files : value.files ≡ unwrap_or (files_given inputs) no_files
+    pub same_outside : value.outside ≡ outside_given inputs
     pub same_paths : value.paths ≡ paths_given inputs
     pub are_services : value.services ≡ checked_services files services
     pub same_level : value.fail_on ≡ fail_on
@@ -54,11 +57,13 @@ module _ (services : List (List ℕ)) (fail_on : LevelName) (named : CheckFiles)
     pub all_tables : BTreeMap TablePlace TableFinding
     pub table_report : IsTableReport files value.services (host_tables_given inputs) all_tables
     pub not_accepted : value.found ≡ not_accepted lines files value.services all.entries
-    pub misspelled : value.misspelled ≡ map (misspelled_at files (there_given inputs) (outside_given inputs)) value.found
+    pub misspelled : value.misspelled ≡ map (misspelled_at files (there_given inputs) (outside_given inputs) (dead_given inputs)) value.found
     pub tables_not_accepted : value.tables ≡ tables_not_accepted lines value.table_paths (table_findings all_tables)
+    -- a line that seems to say nothing may say something of a file that cannot be read
     pub unused : value.unused
-        ≡ unused_lines (lines_without (all_keys files value.services all.entries value.table_paths (table_findings all_tables)) lines)
-        (idle_rows files (there_given inputs) (facts_given inputs))
+        ≡ (if has_unread (unread_given inputs) then []
+        else unused_lines (lines_without (all_keys files value.services all.entries value.table_paths (table_findings all_tables)) lines)
+        (idle_rows files (there_given inputs) (facts_given inputs)))
     -- where no line accepts a finding, and all that are listed are notes, each stack that is checked is sound
     pub silence : value.found ≡ all.entries → All (λ entry. level_of entry.1.problem ≡ Note) value.found →
         (service : ℕ) (kind : Kind) → service < length value.services →

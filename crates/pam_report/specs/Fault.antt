@@ -17,7 +17,7 @@ use Rattle.pam_facts.specs.declared.known.error.NumberedError.{NumberedError}
 use Rattle.pam_paths.specs.declared.cursor.CursorError.{CursorError}
 use Rattle.pam_paths.specs.declared.cursor.CursorError.TheVariants as cursor
 use Rattle.pam_report.specs.FaultTable.{Row, accept_row, candidate_row, conf_row, count_row, cursor_row, facts_row, graph_row, input_row, key_row, memory_row}
-use Rattle.pam_report.specs.FaultTable.{module_row, moment_row, number_row, policy_row, service_row, table_name, table_row, time_row, usage_row, write_row}
+use Rattle.pam_report.specs.FaultTable.{module_row, moment_row, number_row, policy_row, read_row, service_row, table_name, table_row, time_row, usage_row, write_row}
 use Rattle.pam_policy.specs.declared.text.error.PolicyError.{PolicyError}
 use Rattle.pam_policy.specs.declared.text.error.PolicyFault.{PolicyFault}
 use Rattle.pam_policy.specs.declared.text.error.PolicyFault.TheVariants as policy
@@ -79,6 +79,7 @@ row_of faults.NoSuchKey = key_row
 row_of faults.NoSuchNumber = number_row
 row_of faults.NoSuchService = service_row
 row_of faults.UnusedCandidate = candidate_row
+row_of faults.Unread = read_row
 row_of (faults.Cursor e) = cursor_row e
 row_of faults.Device = write_row
 row_of faults.Memory = memory_row

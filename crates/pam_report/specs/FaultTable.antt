@@ -179,8 +179,12 @@ moment_row moment.Syntax = row (codes "M4 Syntax") 4
 
 -- ---- reads and writes
 
+-- a file cannot be read
+abbrev pub read_row : Row
+read_row = row (codes "V1 Read") 5
+
 abbrev pub input_row : InputError → Row
-input_row (inputs.Read name why) = row (codes "V1 Read") 5
+input_row (inputs.Read name why) = read_row
 input_row inputs.Memory = memory_row
 
 abbrev pub write_row : Row

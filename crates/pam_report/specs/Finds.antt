@@ -42,6 +42,7 @@ Refuses IsAnswer (faults.Accept e) = IsAnswer (Err (faults.Accept e))
 Refuses IsAnswer faults.NoSuchNumber = IsAnswer (Err faults.NoSuchNumber)
 Refuses IsAnswer faults.NoSuchService = IsAnswer (Err faults.NoSuchService)
 Refuses IsAnswer faults.UnusedCandidate = IsAnswer (Err faults.UnusedCandidate)
+Refuses IsAnswer faults.Unread = IsAnswer (Err faults.Unread)
 Refuses IsAnswer (faults.Moment e) = IsAnswer (Err (faults.Moment e))
 Refuses IsAnswer (faults.Cursor e) = ⊥
 Refuses IsAnswer (faults.Table e) = IsTableFault IsAnswer e e.error.fault

@@ -54,6 +54,16 @@ abbrev pub outside_given : Inputs → List Bool
 outside_given (inputs.Host files paths given) = given.outside.items
 outside_given _ = []
 
+-- the names of entries of the folders of `check` that are links which lead nowhere
+abbrev pub dead_given : Inputs → List (List ℕ)
+dead_given (inputs.Host files paths given) = given.dead
+dead_given _ = []
+
+-- by the position of each file of `check`, whether it cannot be read; one that cannot has no byte here
+abbrev pub unread_given : Inputs → List Bool
+unread_given (inputs.Host files paths given) = given.unread.items
+unread_given _ = []
+
 -- the paths at which a module is there, if that is known
 abbrev pub there_given : Inputs → Option (List (List ℕ))
 there_given (inputs.Host files paths given) = given.there
@@ -184,7 +194,7 @@ fits_task (Check source services fail_on named) (inputs.Host files paths given) 
 fits_task (Compare old new service kind named) (inputs.Sides old_side new_side facts returns) = fits_compare named facts returns
 fits_task (Show source kind release) (inputs.Stack files) = true
 fits_task (Decide source kind answered) (inputs.Stack files) = true
-fits_task (Access names groups_named login arguments) (inputs.Access tables groups) =
+fits_task (Access names groups_named passwd login arguments) (inputs.Access tables groups) =
     length tables == length names.items && beq (is_some groups) (is_some groups_named)
 fits_task (Time name login moment) (inputs.Time table) = true
 fits_task (Paths source kind limit part filter knowledge) inputs = fits_knowledge knowledge inputs

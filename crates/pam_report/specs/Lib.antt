@@ -13,6 +13,7 @@ pub mod Inputs
 pub mod Keys
 pub mod KnownStack
 pub mod Laws
+pub mod Left
 pub mod Memory
 pub mod Mistakes
 pub mod Moments
@@ -20,6 +21,7 @@ pub mod Names
 pub mod Needs
 pub mod Outcomes
 pub mod PageView
+pub mod Passwd
 pub mod Paths
 pub mod Policy
 pub mod PolicyLevels

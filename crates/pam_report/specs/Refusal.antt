@@ -1,8 +1,8 @@
 -- The line of a fault of a request, which says what the request names.
-use Rattle.std.specs.Prelude.{ℕ, ◌==◌, ◌-◌, ◌&&◌, Bool, true, false, length, not, if◌then◌else◌, List, []}
+use Rattle.std.specs.Prelude.{ℕ, ◌==◌, ◌-◌, Bool, true, false, length, not, if◌then◌else◌, List, []}
 use Rattle.std.specs.Prelude.{◌∷◌, ◌++◌, codes, filter, find, map, Option, Some, None, slice_get, unwrap_or}
 use Rattle.std.specs.Char.{to_ascii_lowercase}
-use Rattle.std.specs.List.{concat}
+use Rattle.std.specs.List.{concat, list_any}
 use Rattle.std.specs.Option.{option_copied, option_map_or, option_or}
 use Rattle.std.specs.Str.{bytes_eq}
 use Rattle.pam_conf.specs.Files.{Folder, Named}
@@ -18,10 +18,10 @@ use Rattle.pam_report.specs.Candidates.{CandidateText, first_unused}
 use Rattle.pam_report.specs.Compare.{side_of}
 use Rattle.pam_report.specs.Fault.{fault_line, line_of, line_place, policy_place}
 use Rattle.pam_report.specs.FaultTable.{candidate_row, key_row, number_row, policy_row, service_row}
-use Rattle.pam_report.specs.Inputs.{files_given, new_given, no_files, old_given}
+use Rattle.pam_report.specs.Inputs.{dead_given, files_given, new_given, no_files, old_given}
 use Rattle.pam_report.specs.Keys.{key_said, wrong_setting}
 use Rattle.pam_report.specs.Mistakes.{hint, number_text}
-use Rattle.pam_report.specs.Services.{has_service}
+use Rattle.pam_report.specs.Services.{has_service, is_there}
 use Rattle.pam_report.specs.declared.fault.policies.PolicyFileError.{PolicyFileError}
 use Rattle.pam_report.specs.declared.fault.Fault.{Fault}
 use Rattle.pam_report.specs.declared.fault.Fault.TheVariants as faults
@@ -51,10 +51,6 @@ side_named (Over folder vendor) = folder.now
 side_named (Conf file) = file.now
 side_named (Root root) = root.now
 
-abbrev pub is_single : Form → Bool
-is_single FolderForm = false
-is_single Single = true
-
 abbrev pub what_is_missing : Form → List ℕ
 what_is_missing FolderForm = codes ": there is no file \""
 what_is_missing Single = codes ": there is no rule of \""
@@ -65,7 +61,7 @@ missing_text folder place name = concat (what_is_missing folder.form ∷ name �
 
 -- a root that has neither of the two folders, nor the one file
 abbrev pub lacks_configuration : ConfSource → Folder → Bool
-lacks_configuration (Root root) folder = is_single folder.form && (length folder.entries == 0)
+lacks_configuration (Root root) folder = not (is_there folder)
 lacks_configuration source folder = false
 
 -- what is said of it
@@ -82,9 +78,21 @@ missing_in source folder name =
 abbrev pub first_missing : Folder → List (List ℕ) → Option (List ℕ)
 first_missing folder names = find (λ name. not (has_service folder name)) names
 
--- what is said of it
-abbrev pub missing_among : Folder → ConfSource → List (List ℕ) → List ℕ
-missing_among folder source names = option_map_or (missing_in source folder) (first_missing folder names) []
+-- it may be the name of a link that leads nowhere, in lower case among these
+abbrev pub dead_text : List ℕ → List ℕ
+dead_text name = concat (codes ": \"" ∷ name ∷ codes "\" is a link that leads nowhere; make the file that it names, or mend the link" ∷ [])
+
+abbrev pub is_dead : List (List ℕ) → List ℕ → Bool
+is_dead dead name = list_any (bytes_eq (map to_ascii_lowercase name)) dead
+
+abbrev pub missing_or_dead : ConfSource → Folder → List (List ℕ) → List ℕ → List ℕ
+missing_or_dead source folder dead name = if is_dead dead name then dead_text name else missing_in source folder name
+
+-- what is said of it, or of a root without a configuration, whether or not services are named
+abbrev pub missing_among : Folder → ConfSource → List (List ℕ) → List (List ℕ) → List ℕ
+missing_among folder source dead names =
+    if lacks_configuration source folder then no_configuration_text (side_named source)
+    else option_map_or (missing_or_dead source folder dead) (first_missing folder names) []
 
 -- the nearest name of the new configuration, or else of the old one
 abbrev pub hint_of_sides : Folder → Folder → List ℕ → List ℕ
@@ -101,7 +109,7 @@ neither_text old_files new_files old new name = neither_with old new name (hint_
 
 -- what is said of a name that is no service
 abbrev pub unknown_text : List ℕ → Task → Folder → Inputs → List ℕ
-unknown_text service (Check source services fail_on named) files inputs = missing_among files source services
+unknown_text service (Check source services fail_on named) files inputs = missing_among files source (dead_given inputs) services
 unknown_text service (Outcomes source kind knowledge) files inputs = missing_in source files service
 unknown_text service (Graph source kind format knowledge) files inputs = missing_in source files service
 unknown_text service (Needs source kind knowledge) files inputs = missing_in source files service

@@ -94,12 +94,14 @@ pub record PageValue : Type 0 where
   pub limit : ℕ
   pub part : PagePart
 
--- the findings of a host and the problems of its tables that are not accepted: the path of its configuration and of each file, and
--- of each table, the services that were checked, the first way in of each, the names of the accept file and the facts file and their
--- lines that say nothing, and the least level that makes the status a refusal. At the position of each finding is the word that is wrong,
--- if any
+-- the findings of a host and the problems of its tables that are not accepted: the files of its configuration, and whether each is a
+-- link that leads out of its folder, the path of the configuration and of each file, and of each table, the services that were checked,
+-- the first way in of each, the names of the accept file and the facts file and their lines that say nothing, and the least level that
+-- makes the status a refusal. At the position of each finding is the word that is wrong, if any
 pub record CheckValue : Type 0 where
   pub form : Form
+  pub files : Folder
+  pub outside : List Bool
   pub paths : List (List ℕ)
   pub services : List (List ℕ)
   pub found : List (Place × Finding)

@@ -72,9 +72,15 @@ outcomes_view o = record {
 abbrev pub drawing_view : GraphReply → spec.DrawingValue
 drawing_view d = record { service = d.service.now; kind = d.kind; items = d.stack; format = d.format; graph = d.graph }
 
+-- the files of a configuration, none if it is not given
+abbrev pub side_files : Option (Bor Folder) → Folder
+side_files files = unwrap_or (option_map (λ f. f.now) files) no_files
+
 abbrev pub check_view : CheckReply → spec.CheckValue
 check_view c = record {
   form = c.form;
+  files = side_files c.files;
+  outside = c.outside.now;
   paths = option_map_or (λ paths. paths.now) c.paths [];
   services = c.report.services;
   found = c.found.items;
@@ -87,10 +93,6 @@ check_view c = record {
   unused = map unused_view c.unused.items;
   fail_on = c.fail_on;
 }
-
--- the files of a configuration, none if it is not given
-abbrev pub side_files : Option (Bor Folder) → Folder
-side_files files = unwrap_or (option_map (λ f. f.now) files) no_files
 
 abbrev pub compare_view : CompareReply → spec.CompareValue
 compare_view c = record { old = side_files c.old; new = side_files c.new; changes = c.changes }

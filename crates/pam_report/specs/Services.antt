@@ -1,5 +1,5 @@
 -- The services that a request names, and whether its configuration has them: pam.conf(5), on /etc/pam.d/ and /etc/pam.conf.
-use Rattle.std.specs.Prelude.{◌≡◌, ℕ, ◌==◌, ◌||◌, Bool, true, false, not, List, length, map, Option, Some, None, Err, is_some}
+use Rattle.std.specs.Prelude.{◌≡◌, ℕ, ◌==◌, ◌&&◌, ◌||◌, Bool, true, false, not, List, length, map, Option, Some, None, Err, is_some}
 use Rattle.std.specs.Char.{to_ascii_lowercase}
 use Rattle.std.specs.List.{list_all, list_any}
 use Rattle.std.specs.Option.{option_map_or}
@@ -34,6 +34,18 @@ has_service folder name = may_hide folder.form folder.entries || has_name folder
 abbrev pub has_services : Folder → List (List ℕ) → Bool
 has_services folder names = list_all (has_service folder) names
 
+-- a configuration is there: a folder, or the one file
+abbrev pub is_present : Form → List Named → Bool
+is_present Dir files = true
+is_present Single files = not (length files == 0)
+
+abbrev pub is_there : Folder → Bool
+is_there folder = is_present folder.form folder.entries
+
+-- WHAT A CHECK IS ASKED FOR is there: the configuration, and each service that is named
+abbrev pub has_asked : Folder → List (List ℕ) → Bool
+has_asked folder names = is_there folder && has_services folder names
+
 -- a side of a comparison has a service
 abbrev pub side_has : Option SideInputs → List ℕ → Bool
 side_has None name = has_service no_files name
@@ -44,7 +56,8 @@ abbrev pub sides_have : Inputs → Option (List ℕ) → Bool
 sides_have inputs None = true
 sides_have inputs (Some name) = side_has (old_given inputs) name || side_has (new_given inputs) name
 
--- U18: A NAME THAT IS NO SERVICE has no answer, though `other` would answer for it. The first is whether all that are named are services
+-- U18: A NAME THAT IS NO SERVICE has no answer, though `other` would answer for it, and a check has none where no configuration is there.
+-- The first is whether all that is asked for is there
 abbrev pub IfServices : Bool → (Answer → Type 0) → (Answer → Type 0)
 IfServices true IsAnswer = IsAnswer
 IfServices false IsAnswer = λ answer. answer ≡ Err faults.NoSuchService

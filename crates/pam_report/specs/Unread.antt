@@ -12,6 +12,8 @@ read_sentence reads.NotFolder = codes "it is no folder, or a part of its path is
 read_sentence reads.IsFolder = codes "it is a folder; write the name of a file"
 read_sentence reads.NotFile = codes "it is no regular file; put one in its place"
 read_sentence reads.Looping = codes "its links lead back to themselves; mend one of them"
+read_sentence reads.TooLong = codes "it is longer than 1 MiB; name a shorter one"
+read_sentence reads.NulByte = codes "it has a NUL byte; remove it"
 read_sentence reads.Failed = codes "it cannot be read; look what it is"
 
 -- THE SENTENCE. A failed allocation has none

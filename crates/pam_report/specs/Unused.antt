@@ -1,5 +1,5 @@
 -- S8: the lines of the accept file and of the facts file that say nothing of a host.
-use Rattle.std.specs.Prelude.{ℕ, ◌||◌, not, List, [], ◌∷◌, ◌++◌, codes, drop, filter_map, map, nat_eq, take, if◌then◌else◌, Option, Some, None, unwrap_or}
+use Rattle.std.specs.Prelude.{ℕ, ◌||◌, not, List, [], ◌∷◌, ◌++◌, codes, drop, filter_map, map, nat_eq, take, if◌then◌else◌, Option, Some, None, unwrap_or, false}
 use Rattle.std.specs.List.{list_any, prefix_len, starts_with}
 use Rattle.std.specs.Option.{option_and_then, option_map_or}
 use Rattle.std.specs.Str.{bytes_eq}
@@ -64,7 +64,7 @@ modules_met files there =
 abbrev pub idle_named : List (List ℕ) → ℕ → List ℕ → Option UnusedText
 idle_named met line name =
     if list_any (bytes_eq name) met then None
-    else Some (OfFacts line (record { of = []; word = name; nearest = nearest (take MAX_NAMES met) name; spot = None }))
+    else Some (OfFacts line (record { of = []; word = name; nearest = nearest (take MAX_NAMES met) name; leads_nowhere = false; spot = None }))
 
 -- the same of a numbered line
 abbrev pub idle_at : List (List ℕ) → ℕ × List ℕ → Option UnusedText

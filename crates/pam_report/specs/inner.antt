@@ -11,6 +11,7 @@ pub mod Memory
 pub mod Needs
 pub mod OutcomeViews
 pub mod PageView
+pub mod Passwd
 pub mod Policy
 pub mod Services
 pub mod Tasks

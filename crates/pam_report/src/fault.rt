@@ -38,8 +38,8 @@ use row::Row;
 use std::alloc::{AllocError, Global};
 use table::{
     accept_row, candidate_row, conf_row, count_row, cursor_row, facts_row, graph_row, input_row,
-    key_row, memory_row, module_row, moment_row, number_row, policy_row, service_row, table_row,
-    time_row, usage_row, write_row,
+    key_row, memory_row, module_row, moment_row, number_row, policy_row, read_row, service_row,
+    table_row, time_row, usage_row, write_row,
 };
 use thiserror::Error;
 pub use unread::input_sentence;
@@ -89,6 +89,9 @@ pub enum Fault {
     /// No service that is checked reads the file of a candidate.
     #[error("no service that is checked reads a candidate")]
     UnusedCandidate,
+    /// Each service that is to be checked takes rules from a file that cannot be read.
+    #[error("no service is left of which each file can be read")]
+    Unread,
     /// No path of the stack has the cursor.
     #[error(transparent)]
     Cursor(CursorError),
@@ -149,6 +152,7 @@ fn row_of(fault: &Fault) -> Row
         Fault::NoSuchNumber => number_row(),
         Fault::NoSuchService => service_row(),
         Fault::UnusedCandidate => candidate_row(),
+        Fault::Unread => read_row(),
         Fault::Cursor(error) => cursor_row(*error),
         Fault::Device => write_row(),
         Fault::Memory => memory_row(),
@@ -301,6 +305,7 @@ pub fn fault_text(alloc: Global, fault: &Fault, files: &Files) -> Result<Vec<u8>
         | Fault::NoSuchNumber
         | Fault::NoSuchService
         | Fault::UnusedCandidate
+        | Fault::Unread
         | Fault::Device
         | Fault::Memory => line(alloc, row, &[]),
     }

@@ -25,6 +25,10 @@ pub enum ReadFault {
     NotFile,
     /// Links lead back to themselves.
     Looping,
+    /// A passwd file has more than `MAX_FILE_BYTES` of pam_text.
+    TooLong,
+    /// A passwd file has a NUL byte.
+    NulByte,
     Failed,
 }
 
@@ -89,6 +93,13 @@ pub struct CheckInputs {
     /// By the position of each file, whether it is a link that leads out of the folder from which it was read; files past its end are
     /// none. No finding at such a file shows a word of it.
     pub outside: Vec<bool>,
+    /// By the position of each file, whether it cannot be read, and then stands here without a byte; files past its end can. A service
+    /// that takes rules from such a file is not checked.
+    pub unread: Vec<bool>,
+    /// Why each of these files cannot be read, with its path.
+    pub unread_errors: Vec<InputError>,
+    /// The names of the entries of the folders that are links which lead nowhere, where no other file has the name.
+    pub dead: NameList,
     /// The paths at which a module is there, as rules write them; `None` if that is not known.
     pub there: Option<NameList>,
     /// The arguments that name a file which is there, as rules write them; `None` if that is not known.

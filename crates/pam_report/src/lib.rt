@@ -6,7 +6,9 @@ mod candidates;
 mod fault;
 mod inputs;
 pub mod laws;
+mod left;
 mod names;
+mod passwd;
 mod report;
 mod services;
 mod tables;
@@ -21,6 +23,7 @@ pub use inputs::{
 };
 pub use names::{kind_name, problem_name, stack_of};
 pub use pam_findings::host::may_name_file;
+pub use passwd::with_primary_members;
 pub use report::{
     AccessReply, AskedModule, CheckReply, CompareReply, GraphReply, JudgedPolicy, NeedsReply,
     Outcome, Outcomes, OutcomesReply, PageRenderer, PathsPage, PolicyReply, ReleasedReply, Reply,

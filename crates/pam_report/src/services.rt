@@ -5,7 +5,8 @@ ghost use Rattle.std.specs.Char.{to_ascii_lowercase};
 ghost use Rattle.std.specs.Option.{option_copied};
 ghost use Rattle.pam_conf.specs.declared.rule.Form.TheVariants.{Single};
 ghost use Rattle.pam_report.specs.Refusal.{names_in, nearest_in};
-ghost use Rattle.pam_report.specs.Services.{has_name as has_name_in, has_service, has_services, may_hide as may_hide_in, sides_have, side_has};
+ghost use Rattle.pam_report.specs.Services.{has_asked, has_name as has_name_in, has_service, has_services, is_there};
+ghost use Rattle.pam_report.specs.Services.{may_hide as may_hide_in, sides_have, side_has};
 ghost use Rattle.pam_report.specs.Inputs.{new_given, old_given};
 ghost use Rattle.pam_report.specs.inner.Services.{IsUnknown};
 
@@ -203,6 +204,26 @@ fn sides_have_service(
     side_has_service(alloc, inputs.new_side(), name.as_bytes())
 }
 
+/// Whether a configuration is there: a folder, or the one file.
+pub(crate) fn is_there(files: &Files) -> bool
+    ensures { result ≡ is_there files.now }
+{
+    match files.form() {
+        Form::Dir => true,
+        Form::Single => files.len() != 0,
+    }
+}
+
+/// Whether a configuration is there, and has each of these services.
+fn has_asked(alloc: Global, files: &Files, names: &Texts) -> Result<bool, AllocError>
+    ensures { IfOk result (λ has. has ≡ has_asked files.now names.now) }
+{
+    if !is_there(files) {
+        return Ok(false);
+    }
+    has_all(alloc, files, names)
+}
+
 /// Returns the fault of names that are no services.
 fn required(known: Result<bool, AllocError>) -> Result<(), Fault>
     ensures { (told : Bool) → IfOk known (λ found. found ≡ told) → MatchResult result (λ _. told ≡ true) (IsUnknown told) }
@@ -221,11 +242,11 @@ pub(crate) fn require(alloc: Global, files: &Files, name: &str) -> Result<(), Fa
     required(has(alloc, files, name.as_bytes()))
 }
 
-/// Refuses names of which one is no service.
-pub(crate) fn require_all(alloc: Global, files: &Files, names: &Texts) -> Result<(), Fault>
-    ensures { let known = has_services files.now names.now in MatchResult result (λ _. known ≡ true) (IsUnknown known) }
+/// Refuses a configuration that is not there, and names of which one is no service.
+pub(crate) fn require_asked(alloc: Global, files: &Files, names: &Texts) -> Result<(), Fault>
+    ensures { let known = has_asked files.now names.now in MatchResult result (λ _. known ≡ true) (IsUnknown known) }
 {
-    required(has_all(alloc, files, names))
+    required(has_asked(alloc, files, names))
 }
 
 /// Refuses a name that is no service of either side of a comparison.

@@ -13,7 +13,7 @@ IsAboutRuns _ = ⊥
 abbrev pub IsAboutService : Task → Type 0
 IsAboutService (Show source kind release) = Unit {0}
 IsAboutService (Decide source kind codes) = Unit {0}
-IsAboutService (Access table groups login arguments) = Unit {0}
+IsAboutService (Access table groups passwd login arguments) = Unit {0}
 IsAboutService (Time table login moment) = Unit {0}
 IsAboutService (Needs source kind knowledge) = Unit {0}
 IsAboutService task = IsAboutRuns task

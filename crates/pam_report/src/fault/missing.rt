@@ -1,7 +1,7 @@
 //! The line about a name that is no service of a configuration.
 
-ghost use Rattle.std.specs.Prelude.{◌≡◌, IfOk, find, not};
-ghost use Rattle.std.specs.Option.{option_map};
+ghost use Rattle.std.specs.Prelude.{◌≡◌, [], IfOk, find, not};
+ghost use Rattle.std.specs.Option.{option_map, option_map_or};
 ghost use Rattle.pam_report.specs.Compare.{side_of};
 ghost use Rattle.pam_report.specs.Fault.{line_of};
 ghost use Rattle.pam_report.specs.FaultTable.{service_row as row_of_service};
@@ -13,9 +13,9 @@ use super::line;
 use super::naming::hint;
 use super::table::service_row;
 use crate::inputs::SideInputs;
-use crate::services::Services;
+use crate::services::{Services, is_there, lowered};
 use pam_codes::Piece;
-use pam_conf::{Files, Form};
+use pam_conf::{Files, Form, NameList};
 use pam_text::Texts;
 use pam_words::ConfSource;
 use std::alloc::{AllocError, Global};
@@ -64,17 +64,8 @@ fn lacks_configuration(source: ConfSource<'_>, files: &Files) -> bool
     ensures { result ≡ spec.lacks_configuration source.entry files.now }
 {
     match source {
-        ConfSource::Root(_) => is_single(files.form()) && files.len() == 0,
+        ConfSource::Root(_) => !is_there(files),
         ConfSource::Dir(_) | ConfSource::Over { .. } | ConfSource::Conf(_) => false,
-    }
-}
-
-fn is_single(form: Form) -> bool
-    ensures { result ≡ spec.is_single form }
-{
-    match form {
-        Form::Dir => false,
-        Form::Single => true,
     }
 }
 
@@ -134,6 +125,51 @@ fn missing_line_in(
     )
 }
 
+/// Whether a link that leads nowhere has this name in lower case.
+fn is_dead(alloc: Global, dead: Option<&NameList>, name: &[u8]) -> Result<bool, AllocError>
+    ensures { IfOk result (λ is_so. is_so ≡ spec.is_dead (option_map_or (λ d. d.now) dead.entry []) name.now) }
+{
+    let Some(dead) = dead else {
+        return Ok(false);
+    };
+    let lower = lowered(alloc, name)?;
+    Ok(dead.has(&lower))
+}
+
+/// The line about the name of a link that leads nowhere.
+fn dead_line(alloc: Global, name: &[u8]) -> Result<Vec<u8>, AllocError>
+    ensures { IfOk result (λ text. text.items ≡ line_of row_of_service (spec.dead_text name.now)) }
+{
+    line(
+        alloc,
+        service_row(),
+        &[
+            Piece::Bytes(b": \""),
+            Piece::Bytes(name),
+            Piece::Bytes(
+                b"\" is a link that leads nowhere; make the file that it names, or mend the link",
+            ),
+        ],
+    )
+}
+
+/// The line about a name that is no service of a source, but may be that of a link which leads nowhere.
+fn missing_or_dead_line(
+    alloc: Global,
+    files: &Files,
+    source: ConfSource<'_>,
+    dead: Option<&NameList>,
+    name: &[u8],
+) -> Result<Vec<u8>, AllocError>
+    ensures { IfOk result (λ text. text.items ≡ line_of row_of_service
+        (spec.missing_or_dead source.entry files.now (option_map_or (λ d. d.now) dead.entry []) name.now)) }
+{
+    if is_dead(alloc, dead, name)? {
+        return dead_line(alloc, name);
+    }
+    missing_line(alloc, files, source, name)
+}
+
 /// The first of these names that is no service.
 fn first_missing<'x>(
     alloc: Global,
@@ -151,17 +187,22 @@ fn first_missing<'x>(
     Ok(None)
 }
 
-/// The line about the first of these names that is no service.
+/// The line about the first of these names that is no service, or about a root without a configuration.
 pub(super) fn missing_among(
     alloc: Global,
     files: &Files,
     source: ConfSource<'_>,
+    dead: Option<&NameList>,
     names: &Texts,
 ) -> Result<Vec<u8>, AllocError>
-    ensures { IfOk result (λ text. text.items ≡ line_of row_of_service (spec.missing_among files.now source.entry names.now)) }
+    ensures { IfOk result (λ text. text.items ≡ line_of row_of_service
+        (spec.missing_among files.now source.entry (option_map_or (λ d. d.now) dead.entry []) names.now)) }
 {
+    if lacks_configuration(source, files) {
+        return no_configuration_line(alloc, side_named(source));
+    }
     match first_missing(alloc, files, names)? {
-        Some(name) => missing_line(alloc, files, source, name),
+        Some(name) => missing_or_dead_line(alloc, files, source, dead, name),
         None => line(alloc, service_row(), &[]),
     }
 }

@@ -104,7 +104,7 @@ fn unknown_line(
             source,
             services,
             ..
-        } => missing_among(alloc, files, *source, services),
+        } => missing_among(alloc, files, *source, inputs.dead(), services),
         Task::Outcomes { source, .. } | Task::Graph { source, .. } | Task::Needs { source, .. } => {
             missing_line(alloc, files, *source, request.service.as_bytes())
         }

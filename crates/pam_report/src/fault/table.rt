@@ -260,11 +260,18 @@ pub(super) fn moment_row(error: MomentError) -> Row
     }
 }
 
+/// The row of a file that cannot be read.
+pub(super) fn read_row() -> Row
+    ensures { row_view result ≡ spec.read_row }
+{
+    Row::of("V1 Read", FAILED)
+}
+
 pub(super) fn input_row(error: &InputError) -> Row
     ensures { row_view result ≡ spec.input_row error.now }
 {
     match error {
-        InputError::Read(..) => Row::of("V1 Read", FAILED),
+        InputError::Read(..) => read_row(),
         InputError::Memory => memory_row(),
     }
 }

@@ -20,6 +20,8 @@ fn read_sentence(why: ReadFault) -> &'static str
         ReadFault::IsFolder => "it is a folder; write the name of a file",
         ReadFault::NotFile => "it is no regular file; put one in its place",
         ReadFault::Looping => "its links lead back to themselves; mend one of them",
+        ReadFault::TooLong => "it is longer than 1 MiB; name a shorter one",
+        ReadFault::NulByte => "it has a NUL byte; remove it",
         ReadFault::Failed => "it cannot be read; look what it is",
     }
 }

@@ -3,7 +3,8 @@
 ghost use Rattle.std.specs.Prelude.{◌≡◌, [], option_map};
 ghost use Rattle.std.specs.Option.{option_map_or};
 
-use crate::inputs::{Inputs, SideInputs, TableFile};
+use crate::inputs::{InputError, Inputs, SideInputs, TableFile};
+use crate::left::has_unread;
 use crate::tables::TablePaths;
 use pam_conf::{Files, NameList};
 use pam_findings::tables::HostTables;
@@ -12,10 +13,11 @@ use pam_text::Texts;
 impl Inputs {
     ghost use Rattle.std.specs.Prelude.{◌≡◌, [], option_map};
     ghost use Rattle.std.specs.Option.{option_map_or};
-    ghost use Rattle.pam_report.specs.Inputs.{accept_given, access_given, facts_given, files_given};
+    ghost use Rattle.pam_report.specs.Inputs.{accept_given, access_given, dead_given, facts_given, files_given};
     ghost use Rattle.pam_report.specs.Inputs.{group_file, host_tables_given, named_files_given, new_given, old_given, outside_given, paths_given};
     ghost use Rattle.pam_report.specs.Inputs.{policies_given, returns_given};
-    ghost use Rattle.pam_report.specs.Inputs.{table_paths_given, there_given, time_given, vendor_start_given};
+    ghost use Rattle.pam_report.specs.Inputs.{table_paths_given, there_given, time_given, unread_given, vendor_start_given};
+    ghost use Rattle.pam_report.specs.Left.{has_unread};
     ghost use Rattle.pam_report.specs.TablePaths.{table_paths_view};
     ghost use Rattle.pam_findings.specs.tables.Tables.{tables_view as host_tables_view};
 
@@ -72,6 +74,41 @@ impl Inputs {
         match self {
             Inputs::Host { given, .. } => given.outside.as_slice(),
             _ => &[],
+        }
+    }
+
+    /// Returns by the position of each file of `check` whether it cannot be read.
+    pub(crate) fn unread(&self) -> &[bool]
+        ensures { result.now ≡ unread_given self.now }
+    {
+        match self {
+            Inputs::Host { given, .. } => given.unread.as_slice(),
+            _ => &[],
+        }
+    }
+
+    /// Returns whether a file of `check` cannot be read.
+    pub fn has_unread(&self) -> bool
+        ensures { result ≡ has_unread (unread_given self.now) }
+    {
+        has_unread(self.unread())
+    }
+
+    /// Returns why each file of `check` that cannot be read cannot.
+    pub fn unread_errors(&self) -> &[InputError] {
+        match self {
+            Inputs::Host { given, .. } => given.unread_errors.as_slice(),
+            _ => &[],
+        }
+    }
+
+    /// Returns the names of entries of the folders of `check` that are links which lead nowhere.
+    pub(crate) fn dead(&self) -> Option<&NameList>
+        ensures { option_map_or (λ d. d.now) result [] ≡ dead_given self.now }
+    {
+        match self {
+            Inputs::Host { given, .. } => Some(&given.dead),
+            _ => None,
         }
     }
 

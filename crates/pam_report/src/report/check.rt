@@ -1,19 +1,20 @@
 //! The `check` command: what is wrong with a host.
 
-ghost use Rattle.std.specs.Prelude.{◌≡◌, [], IfOk, IfErr, MatchResult, map, true, unwrap_or};
+ghost use Rattle.std.specs.Prelude.{◌≡◌, [], IfOk, IfErr, MatchResult, if◌then◌else◌, map, true, unwrap_or};
 ghost use Rattle.std.specs.List.{list_any};
 ghost use Rattle.std.specs.Option.{option_copied};
 ghost use Rattle.pam_report.specs.Candidates.{IfUsed, first_unused};
 ghost use Rattle.pam_report.specs.Check.{IsCheck};
 ghost use Rattle.pam_report.specs.inner.Check.{IsAccepted, IsListedFrom, IsReported, IsUnaccepted, IsUnreported};
 ghost use Rattle.pam_report.specs.Finds.{Finds};
-ghost use Rattle.pam_report.specs.Inputs.{facts_given, host_tables_given, there_given};
+ghost use Rattle.pam_report.specs.Inputs.{facts_given, host_tables_given, there_given, unread_given};
 ghost use Rattle.pam_findings.specs.tables.Report.{IsTableReport};
 ghost use Rattle.pam_report.specs.Memory.{WantsOnly, of_stack};
 ghost use Rattle.pam_report.specs.Reply.{check_status, counts, has_counting, has_counting_line, has_counting_table};
 ghost use Rattle.pam_report.specs.ReplyViews.{check_view};
-ghost use Rattle.pam_report.specs.Services.{IfServices, has_services};
+ghost use Rattle.pam_report.specs.Services.{IfServices, has_asked};
 ghost use Rattle.pam_report.specs.TablePaths.{table_paths_view};
+ghost use Rattle.pam_report.specs.Left.{IfAllRead, IfLeft, has_unread, services_left};
 ghost use Rattle.pam_report.specs.Unused.{idle_rows, level_of_unused, unused_lines as spec_unused_lines, unused_view};
 ghost use Rattle.pam_words.specs.Wanted.{candidate_view};
 
@@ -24,7 +25,8 @@ use super::unused::{UnusedLine, unused_lines};
 use crate::candidates::require_used;
 use crate::fault::{Fault, accept_fault, facts_fault};
 use crate::inputs::Inputs;
-use crate::services::require_all;
+use crate::left::services_left;
+use crate::services::require_asked;
 use crate::tables::{TablePaths, table_problem_level};
 use pam_conf::{Files, Form};
 use pam_facts::Facts;
@@ -41,6 +43,10 @@ use std::alloc::Global;
 #[derive(Drop)]
 pub struct CheckReply<'a> {
     pub form: Form,
+    /// The files of the configuration.
+    pub files: Option<&'a Files>,
+    /// For each file, by its position, whether it is a link that leads out of its folder. No word of such a file is told.
+    pub outside: &'a [bool],
     /// The path of the configuration, and then that of each file by its position, as far as they are known.
     pub paths: Option<&'a Texts>,
     pub report: HostReport,
@@ -204,7 +210,8 @@ fn list_unaccepted(
     }
 }
 
-/// Returns the lines that say nothing of the host, of which those of the accept file are known.
+/// Returns the lines that say nothing of the host, of which those of the accept file are known. None are told where a file cannot be
+/// read, of which they may say something.
 fn lines_unused(
     alloc: Global,
     accept: &[u32],
@@ -212,9 +219,13 @@ fn lines_unused(
     inputs: &Inputs,
 ) -> Result<Vec<UnusedLine>, Fault>
     ensures ok { IfOk result (λ unused. map unused_view unused.items
-        ≡ spec_unused_lines accept.now (idle_rows files.now (there_given inputs.now) (facts_given inputs.now))) }
+        ≡ (if has_unread (unread_given inputs.now) then []
+        else spec_unused_lines accept.now (idle_rows files.now (there_given inputs.now) (facts_given inputs.now)))) }
     ensures err { IfErr result (λ fault. fault ≡ Fault.Memory) }
 {
+    if inputs.has_unread() {
+        return Ok(Vec::new(alloc));
+    }
     match unused_lines(alloc, accept, files, inputs.there(), inputs.facts_file()) {
         Ok(unused) => Ok(unused),
         Err(_) => Err(Fault::Memory),
@@ -231,8 +242,8 @@ fn name_of<'a>(named: Option<&'a str>) -> &'a str
     }
 }
 
-/// Returns the findings of the services that are named, or of all. Each that is named has to be one of the configuration, and some
-/// service that is checked has to read each candidate.
+/// Returns the findings of the services that are named, or of all. The configuration has to be there and to have each that is named, and
+/// some service that is checked has to read each candidate.
 // Not inlined, so that a command uses no stack for the values of the others.
 #[inline(never)]
 pub(super) fn checked<'a>(
@@ -241,12 +252,14 @@ pub(super) fn checked<'a>(
     files: &Files,
     inputs: &'a Inputs,
 ) -> Result<Reply<'a>, Fault>
-    ensures answer { Finds result (IfServices (has_services files.now asked.entry.services.now)
+    ensures answer { Finds result (IfServices (has_asked files.now asked.entry.services.now)
         (IfUsed (first_unused files.now asked.entry.services.now (map candidate_view asked.entry.candidates.now))
-        (IsCheck asked.entry.services.now asked.entry.fail_on asked.entry.given.now files.now inputs.now))) }
+        (IfAllRead (has_unread (unread_given inputs.now)) asked.entry.services.now
+        (services_left files.now (unread_given inputs.now) asked.entry.services.now)
+        (λ checked. IsCheck checked asked.entry.fail_on asked.entry.given.now files.now inputs.now)))) }
     ensures wants { WantsOnly (of_stack true) result }
 {
-    match require_all(alloc, files, asked.services) {
+    match require_asked(alloc, files, asked.services) {
         Ok(()) => checked_candidates(alloc, asked, files, inputs),
         Err(fault) => Err(fault),
     }
@@ -260,13 +273,61 @@ fn checked_candidates<'a>(
     inputs: &'a Inputs,
 ) -> Result<Reply<'a>, Fault>
     ensures answer { Finds result (IfUsed (first_unused files.now asked.entry.services.now (map candidate_view asked.entry.candidates.now))
-        (IsCheck asked.entry.services.now asked.entry.fail_on asked.entry.given.now files.now inputs.now)) }
+        (IfAllRead (has_unread (unread_given inputs.now)) asked.entry.services.now
+        (services_left files.now (unread_given inputs.now) asked.entry.services.now)
+        (λ checked. IsCheck checked asked.entry.fail_on asked.entry.given.now files.now inputs.now))) }
     ensures wants { WantsOnly (of_stack true) result }
 {
     match require_used(alloc, files, asked.services, asked.candidates) {
-        Ok(()) => checked_services(alloc, asked, files, inputs),
+        Ok(()) => checked_if_read(alloc, asked, files, inputs),
         Err(fault) => Err(fault),
     }
+}
+
+/// Returns the findings of services; where a file cannot be read, of those that take no rules from such a file.
+fn checked_if_read<'a>(
+    alloc: Global,
+    asked: CheckRequest<'_, 'a>,
+    files: &Files,
+    inputs: &'a Inputs,
+) -> Result<Reply<'a>, Fault>
+    ensures answer { let named = asked.entry.services.now in
+        let unread = unread_given inputs.now in
+        Finds result (IfAllRead (has_unread unread) named (services_left files.now unread named)
+        (λ checked. IsCheck checked asked.entry.fail_on asked.entry.given.now files.now inputs.now)) }
+    ensures wants { WantsOnly (of_stack true) result }
+{
+    if !inputs.has_unread() {
+        return checked_services(alloc, asked, files, inputs);
+    }
+    match services_left(alloc, files, inputs.unread(), asked.services) {
+        Ok(left) => checked_left(alloc, asked, &left, files, inputs),
+        Err(_) => Err(Fault::Memory),
+    }
+}
+
+/// Returns the findings of these services, if there are any.
+fn checked_left<'a>(
+    alloc: Global,
+    asked: CheckRequest<'_, 'a>,
+    left: &Texts,
+    files: &Files,
+    inputs: &'a Inputs,
+) -> Result<Reply<'a>, Fault>
+    ensures answer { Finds result (IfLeft left.now
+        (λ checked. IsCheck checked asked.entry.fail_on asked.entry.given.now files.now inputs.now)) }
+    ensures wants { WantsOnly (of_stack true) result }
+{
+    if left.len() == 0 {
+        return Err(Fault::Unread);
+    }
+    let asked = CheckRequest {
+        services: left,
+        candidates: asked.candidates,
+        fail_on: asked.fail_on,
+        given: asked.given,
+    };
+    checked_services(alloc, asked, files, inputs)
 }
 
 /// Returns the findings of the services that are named, or of all.
@@ -289,6 +350,7 @@ fn checked_services<'a>(
         files,
         inputs.there(),
         inputs.outside(),
+        inputs.dead(),
         &listed.found,
     ) else {
         return Err(Fault::Memory);
@@ -296,6 +358,8 @@ fn checked_services<'a>(
     let unused = lines_unused(alloc, &listed.unused, files, inputs)?;
     Ok(Reply::Check(CheckReply {
         form: files.form(),
+        files: inputs.files(),
+        outside: inputs.outside(),
         paths: inputs.paths(),
         report,
         found: listed.found,

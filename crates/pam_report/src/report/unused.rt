@@ -198,6 +198,7 @@ fn idle_named(
             module: Vec::new(alloc),
             word: Vec::from_slice(alloc, name)?,
             nearest,
+            leads_nowhere: false,
             spot: None,
         },
     )))

@@ -22,6 +22,7 @@ refused faults.NoSuchKey answer h = absurd h
 refused faults.NoSuchNumber answer h = absurd h
 refused faults.NoSuchService answer h = absurd h
 refused faults.UnusedCandidate answer h = absurd h
+refused faults.Unread answer h = absurd h
 refused (faults.Cursor e) answer h = absurd h
 refused faults.Device answer h = absurd h
 refused faults.Memory answer h = absurd h
