@@ -1,3 +1,4 @@
+pub mod FullTextProofs
 pub mod JsonLinesProofs
 pub mod JsonTextProofs
 pub mod PartsProofs

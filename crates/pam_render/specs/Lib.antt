@@ -1,3 +1,4 @@
+pub mod full_text
 pub mod json_lines
 pub mod json_text
 pub mod parts

@@ -4,6 +4,7 @@
 
 mod faults;
 pub mod laws;
+mod modules;
 mod needs;
 mod phrase;
 mod policy;
@@ -12,15 +13,16 @@ mod refusals;
 mod shown;
 mod tables;
 
-pub use faults::{Naming, naming_of, plain_sentence};
+pub(crate) use faults::naming_for;
+pub use faults::{Naming, dead_naming, naming_of, plain_sentence};
+pub use modules::{UNTOLD_MODULE, naming_of_module};
 pub use needs::{events_in, put_needed_rule};
 pub use phrase::{Phrase, Phrases, put_phrases};
 pub use policy::{policy_finding_name, put_policy_said};
 pub use problems::{
-    UNUSED, argument_naming, idle_naming, level_name, module_naming, problem_sentence, put_said,
-    put_unused_said,
+    UNUSED, argument_naming, idle_naming, level_name, problem_sentence, put_said, put_unused_said,
 };
 pub use refusals::refusal_sentence;
-pub(crate) use shown::hidden_text;
+pub(crate) use shown::{byte_at, hidden_text, is_hidden, put_byte, three_bytes, two_bytes};
 pub use shown::{MAX_SHOWN, put_name, put_name_within};
 pub use tables::{put_table_said, table_fault_sentence, time_fault_sentence};

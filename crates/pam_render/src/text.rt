@@ -19,4 +19,5 @@ mod show;
 mod tables;
 mod word;
 
+pub(crate) use form::AsText;
 pub use printing::{answer, print};

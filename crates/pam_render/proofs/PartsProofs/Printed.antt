@@ -49,6 +49,7 @@ module _ {W : Type 0} (contents : W → Option (List ℕ)) (One Other : Reply �
   printed-as (Err faults.NoSuchNumber) h = absurd h
   printed-as (Err faults.NoSuchService) h = absurd h
   printed-as (Err faults.UnusedCandidate) h = absurd h
+  printed-as (Err faults.Unread) h = absurd h
   printed-as (Err (faults.Facts e)) h = absurd h
   printed-as (Err (faults.Policy e)) h = absurd h
   printed-as (Err (faults.Accept e)) h = absurd h
@@ -82,6 +83,7 @@ module _ (K : Type 0) {W : Type 0} (contents : W → Option (List ℕ)) (IsText 
   listing-refused faults.NoSuchNumber h same = absurd h
   listing-refused faults.NoSuchService h same = absurd h
   listing-refused faults.UnusedCandidate h same = absurd h
+  listing-refused faults.Unread h same = absurd h
   listing-refused (faults.Facts e) h same = absurd h
   listing-refused (faults.Policy e) h same = absurd h
   listing-refused (faults.Accept e) h same = absurd h

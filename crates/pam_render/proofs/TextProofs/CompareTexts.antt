@@ -6,7 +6,7 @@ use Rattle.pam_changes.specs.declared.steps.AskedModule.{AskedModule}
 use Rattle.pam_conf.specs.Stack.{Items}
 use Rattle.pam_text.proofs.TextSteps.{unequal}
 use Rattle.pam_render.specs.text.Check.{counted}
-use Rattle.pam_render.specs.text.Compare.{asked_text, asked_texts, has_any, moved_text, next_asked, numbered, numbered_text, only_count}
+use Rattle.pam_render.specs.text.Compare.{asked_text, asked_texts, has_any, module_text, moved_text, next_asked, numbered, numbered_text, only_count}
 
 -- the first and the others of a list
 pub numbered-is : (place : List ℕ) (items : Items) (change : List ℕ) (more : Bool) (all : List ℕ) (first : ℕ) (others : List ℕ) → all ≡ first ∷ others
@@ -40,6 +40,11 @@ pub parts-10 : (a b c d e f g h i j : List ℕ)
     ≡ a ++ b ++ c ++ d ++ e ++ f ++ g ++ h ++ i ++ j
 parts-10 a b c d e f g h i j = simp (append_assoc, append-nil)
 
+pub parts-11 : (a b c d e f g h i j k : List ℕ)
+    → a ++ (b ++ (c ++ (d ++ (e ++ (f ++ (g ++ (h ++ (i ++ (j ++ (k ++ []))))))))))
+    ≡ a ++ b ++ c ++ d ++ e ++ f ++ g ++ h ++ i ++ j ++ k
+parts-11 a b c d e f g h i j k = simp (append_assoc, append-nil)
+
 pub parts-16 : (a b c d e f g h i j k l m n o p : List ℕ)
     → a ++ (b ++ (c ++ (d ++ (e ++ (f ++ (g ++ (h ++ (i ++ (j ++ (k ++ (l ++ (m ++ (n ++ (o ++ (p ++ [])))))))))))))))
     ≡ a ++ b ++ c ++ d ++ e ++ f ++ g ++ h ++ i ++ j ++ k ++ l ++ m ++ n ++ o ++ p
@@ -51,6 +56,17 @@ pub change-parts : (head change first second asked old new all : List ℕ) → f
     ≡ head ++ codes " " ++ change ++ codes ": " ++ old ++ codes " becomes " ++ new ++ codes " where " ++ all ++ codes "\n"
 change-parts head change first second asked old new all e f g =
     rw (e, f, g) (parts-10 head (codes " ") change (codes ": ") old (codes " becomes ") new (codes " where ") all (codes "\n"))
+
+-- a line of a module that guards a login, with the words for it
+pub guard-parts : (items : Items) (number : ℕ) (head place change counted does name : List ℕ) (changed counting doing named : List ℕ)
+    → change ≡ changed → counted ≡ counting → does ≡ doing → name ≡ named
+    → head ++ (codes " " ++ (change ++ (codes ": " ++ (module_text counted items number ++ (codes ", which " ++ (does ++ (codes " (" ++ (name
+    ++ (place ++ (codes ")\n" ++ []))))))))))
+    ≡ head ++ codes " " ++ changed ++ codes ": " ++ module_text counting items number ++ codes ", which " ++ doing ++ codes " (" ++ named
+    ++ place ++ codes ")\n"
+guard-parts items number head place change counted does name changed counting doing named e f g h =
+    rw (e, f, g, h)
+    (parts-11 head (codes " ") changed (codes ": ") (module_text counting items number) (codes ", which ") doing (codes " (") named place (codes ")\n"))
 
 -- which modules moved, and which got another control
 pub moved-are : (pair : StackPair) (more any after : Bool) (moved controls : List ℕ) → any ≡ has_any moved → moved ≡ pair.modules.moved.items

@@ -24,14 +24,16 @@ use Rattle.pam_report.specs.declared.fault.Fault.TheVariants as faults
 use Rattle.pam_report.specs.declared.inputs.Inputs.{Inputs}
 use Rattle.pam_report.specs.declared.report.Status.{Status}
 use Rattle.pam_report.specs.declared.report.replies.Reply as declared
-use Rattle.pam_words.specs.declared.wanted.OutputForm.TheVariants.{Json, Sarif}
+use Rattle.pam_words.specs.declared.wanted.OutputForm.TheVariants.{Full, Json, Sarif}
 use Rattle.pam_words.specs.declared.wanted.ReleaseName.{ReleaseName}
 use Rattle.pam_words.specs.declared.wanted.Task.{Task}
 use Rattle.pam_words.specs.declared.wanted.Task.TheVariants.{Show, Decide, Access, Time, Paths, Outcomes, Graph, Check, Compare, Policy, Explain}
 use Rattle.pam_words.specs.declared.wanted.Task.TheVariants.{Facts, Needs, Version}
-use Rattle.pam_render.specs.sarif.Document.{IsSarif, has_sarif}
+use Rattle.pam_render.specs.full_text.Check.{IsFull}
+use Rattle.pam_render.specs.parts.Findings.{is_check}
+use Rattle.pam_render.specs.sarif.Document.{IsSarif}
 use Rattle.pam_render.specs.text.Leaves.{LeavesFault, LeavesSome}
-use Rattle.pam_render.specs.text.Text.{IsJsonOrText, IsSarifOrText, IsText as IsPlainText, IsTextIn}
+use Rattle.pam_render.specs.text.Text.{IsFullOrText, IsJsonOrText, IsSarifOrText, IsText as IsPlainText, IsTextIn}
 
 -- what a call gives that answers a task, if another gives as much for each relation
 pub answers-by : (One Other : (Answer → Type 0) → Type 0) → ((IsAnswer : Answer → Type 0) → One IsAnswer → Other IsAnswer)
@@ -40,7 +42,7 @@ pub answers-by : (One Other : (Answer → Type 0) → Type 0) → ((IsAnswer : A
 unfolding AnswersBy
 answers-by One Other go service candidates (Show source kind release) files inputs h = go _ h
 answers-by One Other go service candidates (Decide source kind answered) files inputs h = go _ h
-answers-by One Other go service candidates (Access table groups login arguments) files inputs h = go _ h
+answers-by One Other go service candidates (Access table groups passwd login arguments) files inputs h = go _ h
 answers-by One Other go service candidates (Time table login moment) files inputs h = (h.0, h.1, go _ h.2)
 answers-by One Other go service candidates (Paths source kind limit part filter knowledge) files inputs h = (h.0, h.1, go _ h.2)
 answers-by One Other go service candidates (Outcomes source kind knowledge) files inputs h = (h.0, h.1, go _ h.2)
@@ -67,6 +69,7 @@ module _ {W : Type 0} (contents : W → Option (List ℕ)) (IsText : Reply → R
   refused faults.NoSuchNumber IsAnswer same h = (same, h)
   refused faults.NoSuchService IsAnswer same h = (same, h)
   refused faults.UnusedCandidate IsAnswer same h = (same, h)
+  refused faults.Unread IsAnswer same h = (same, h)
   refused (faults.Facts e) IsAnswer same h = (same, h)
   refused (faults.Policy e) IsAnswer same h = (same, h)
   refused (faults.Accept e) IsAnswer same h = (same, h)
@@ -93,6 +96,7 @@ module _ {W : Type 0} (contents : W → Option (List ℕ)) (IsText : Reply → R
   unprinted faults.NoSuchNumber reply h IsAnswer is = absurd h
   unprinted faults.NoSuchService reply h IsAnswer is = absurd h
   unprinted faults.UnusedCandidate reply h IsAnswer is = absurd h
+  unprinted faults.Unread reply h IsAnswer is = absurd h
   unprinted (faults.Facts e) reply h IsAnswer is = absurd h
   unprinted (faults.Policy e) reply h IsAnswer is = absurd h
   unprinted (faults.Accept e) reply h IsAnswer is = absurd h
@@ -114,6 +118,7 @@ module _ {W : Type 0} (contents : W → Option (List ℕ)) (IsText : Reply → R
   unprinted-wants wants faults.NoSuchNumber reply h works = absurd h
   unprinted-wants wants faults.NoSuchService reply h works = absurd h
   unprinted-wants wants faults.UnusedCandidate reply h works = absurd h
+  unprinted-wants wants faults.Unread reply h works = absurd h
   unprinted-wants wants (faults.Facts e) reply h works = absurd h
   unprinted-wants wants (faults.Policy e) reply h works = absurd h
   unprinted-wants wants (faults.Accept e) reply h works = absurd h
@@ -143,7 +148,7 @@ module _ {W : Type 0} (contents : W → Option (List ℕ)) (reply : Reply) (resu
 
 -- ---- SARIF
 
-plain-as_sarif : (reply : Reply) → has_sarif reply ≡ false → (text : Result (List ℕ) CursorError) → IsPlainText reply text → IsTextIn Sarif reply text
+plain-as_sarif : (reply : Reply) → is_check reply ≡ false → (text : Result (List ℕ) CursorError) → IsPlainText reply text → IsTextIn Sarif reply text
 plain-as_sarif reply none text is = subst (λ (given : Bool). IsSarifOrText given reply text) (sym none) is
 
 module _ {W : Type 0} (contents : W → Option (List ℕ)) (old new : Out W) (reply : Reply) where
@@ -155,9 +160,27 @@ module _ {W : Type 0} (contents : W → Option (List ℕ)) (old new : Out W) (re
       (printed-as contents IsSarif (IsTextIn Sarif) old new (CheckReply found) (λ text is. is) result h)
 
   -- the text of another reply
-  pub text-printed-for : (result : Result (Unit {0}) Fault) → has_sarif reply ≡ false → PrintsBy contents IsPlainText old new result reply
+  pub text-printed-for : (result : Result (Unit {0}) Fault) → is_check reply ≡ false → PrintsBy contents IsPlainText old new result reply
       → PrintsBy contents (IsTextIn Sarif) old new result reply
   text-printed-for result none h = printed-as contents IsPlainText (IsTextIn Sarif) old new reply (plain-as_sarif reply none) result h
+
+-- ---- the full text
+
+plain-as_full : (reply : Reply) → is_check reply ≡ false → (text : Result (List ℕ) CursorError) → IsPlainText reply text → IsTextIn Full reply text
+plain-as_full reply none text is = subst (λ (given : Bool). IsFullOrText given reply text) (sym none) is
+
+module _ {W : Type 0} (contents : W → Option (List ℕ)) (old new : Out W) (reply : Reply) where
+  -- the full text of the check that the reply is
+  pub full-printed : (found : CheckValue) (result : Result (Unit {0}) Fault) → reply ≡ CheckReply found
+      → PrintsBy contents IsFull old new result (CheckReply found) → PrintsBy contents (IsTextIn Full) old new result reply
+  full-printed found result same h =
+      subst (λ (r : Reply). PrintsBy contents (IsTextIn Full) old new result r) (sym same)
+      (printed-as contents IsFull (IsTextIn Full) old new (CheckReply found) (λ text is. is) result h)
+
+  -- the text of another reply
+  pub text-printed-for_full : (result : Result (Unit {0}) Fault) → is_check reply ≡ false → PrintsBy contents IsPlainText old new result reply
+      → PrintsBy contents (IsTextIn Full) old new result reply
+  text-printed-for_full result none h = printed-as contents IsPlainText (IsTextIn Full) old new reply (plain-as_full reply none) result h
 
 -- ---- pages
 
@@ -195,7 +218,7 @@ unfolding AnswersBy
 page-wants service candidates (Show source kind release) files inputs reply h page =
     absurd (not_both (sym page ∙ ap page_in (sym h) ∙ no_shown release service kind files))
 page-wants service candidates (Decide source kind answered) files inputs reply h page = refl
-page-wants service candidates (Access table groups login arguments) files inputs reply h page = refl
+page-wants service candidates (Access table groups passwd login arguments) files inputs reply h page = refl
 page-wants service candidates (Time table login moment) files inputs reply h page = refl
 page-wants service candidates (Paths source kind limit part filter knowledge) files inputs reply h page = refl
 page-wants service candidates (Outcomes source kind knowledge) files inputs reply h page = refl

@@ -3,6 +3,9 @@ use Rattle.std.specs.Prelude.{ℕ, List, [], ◌∷◌, codes, map, Option, None
 use Rattle.std.specs.List.{after_first, before_first}
 use Rattle.std.specs.Option.{option_map_or}
 use Rattle.pam_changes.specs.declared.counts.Counts.{Counts}
+use Rattle.pam_changes.specs.declared.guards.Guard.{Guard}
+use Rattle.pam_changes.specs.declared.guards.Guard.TheVariants as guards
+use Rattle.pam_changes.specs.declared.guards.GuardingModule.{GuardingModule}
 use Rattle.pam_changes.specs.declared.modules.MatchedPair.{MatchedPair}
 use Rattle.pam_changes.specs.declared.pair.Shown.{Shown}
 use Rattle.pam_changes.specs.declared.pair.StackPair.{StackPair}
@@ -14,8 +17,9 @@ use Rattle.pam_conf.specs.Files.{Folder}
 use Rattle.pam_conf.specs.Stack.{Items, module_at}
 use Rattle.pam_conf.specs.declared.conf_error.ConfError.{ConfError}
 use Rattle.pam_render.specs.json_lines.Line.{items_of, kind, line, members_of, number_or_null, readable, readable_or_null, strings}
-use Rattle.pam_render.specs.parts.Changes.{occurrence}
-use Rattle.pam_render.specs.parts.Compared.{Arguments, As, Change, Head, Last, Line, NotKnown, OnlyInNew, OnlyInOld, Refused, Same, Side, compared_lines}
+use Rattle.pam_render.specs.parts.Changes.{change_name, configuration_name, file_of_rule, line_of_rule, occurrence}
+use Rattle.pam_render.specs.parts.Compared.{Arguments, As, Change, Guard as GuardOf, Head, Last, Line, NotKnown, OnlyInNew, OnlyInOld, Refused, Same, Side}
+use Rattle.pam_render.specs.parts.Compared.{StackOfOne, compared_lines}
 use Rattle.pam_report.specs.Decide.{path_at}
 use Rattle.pam_report.specs.Fault.{file_at}
 use Rattle.pam_report.specs.FaultTable.{conf_row}
@@ -103,6 +107,30 @@ arguments_members head pair matched =
 unfoldable pub arguments_json : Head → StackPair → MatchedPair → List ℕ
 arguments_json head pair matched = line (arguments_members head pair matched)
 
+-- A MODULE THAT GUARDS A LOGIN
+
+-- what it does
+abbrev pub guard_name : Guard → List ℕ
+guard_name guards.Checks = codes "checks"
+guard_name guards.Refuses = codes "refuses"
+guard_name guards.Counts = codes "counts"
+
+-- the file and line of its rule
+abbrev pub rule_members : Option (List ℕ) → ℕ → List (List ℕ × Data)
+rule_members file line_number =
+    (codes "file", readable_or_null file) ∷ (codes "line", number_or_null (option_map (λ _. line_number) file)) ∷ []
+
+abbrev pub guard_members : StackOfOne → GuardingModule → List (List ℕ × Data)
+guard_members stack g =
+    head_members (codes "guard") stack.head
+    ((codes "change", string (change_name stack.configuration))
+    ∷ module_members (configuration_name stack.configuration) stack.items g.number
+    ((codes "guard", string (guard_name g.guard))
+    ∷ rule_members (file_of_rule stack.files stack.items g.number) (line_of_rule stack.items g.number)))
+
+unfoldable pub guard_json : StackOfOne → GuardingModule → List ℕ
+guard_json stack g = line (guard_members stack g)
+
 -- STACKS
 
 -- the first fault of a configuration, and where it is, if it is in a file
@@ -157,6 +185,7 @@ line_json (Arguments head pair matched) = arguments_json head pair matched
 line_json (Change head pair change shown) = change_json head pair change shown
 line_json (Same head pair) = same_json head pair
 line_json (NotKnown head) = line (not_known_members head)
+line_json (GuardOf stack guarding) = guard_json stack guarding
 line_json (Last stacks counts) = compared_json stacks counts
 
 -- THE JSON of `compare`: which lines come, in which order, says `compared_lines`

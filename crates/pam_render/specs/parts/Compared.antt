@@ -4,6 +4,7 @@ use Rattle.std.specs.List.{flat_map}
 use Rattle.std.specs.Option.{option_map_or}
 use Rattle.pam_changes.specs.Counts.{counts_of}
 use Rattle.pam_changes.specs.declared.counts.Counts.{Counts}
+use Rattle.pam_changes.specs.declared.guards.GuardingModule.{GuardingModule}
 use Rattle.pam_changes.specs.declared.modules.MatchedPair.{MatchedPair}
 use Rattle.pam_changes.specs.declared.pair.Decisions.{Decisions}
 use Rattle.pam_changes.specs.declared.pair.Decisions.TheVariants.{Known, NotKnown as DecisionsNotKnown}
@@ -15,10 +16,13 @@ use Rattle.pam_changes.specs.declared.stacks.ComparedStack.{ComparedStack}
 use Rattle.pam_changes.specs.declared.stacks.StackChange.{StackChange}
 use Rattle.pam_changes.specs.declared.stacks.StackChange.TheVariants as changes
 use Rattle.pam_conf.specs.Files.{Folder}
+use Rattle.pam_conf.specs.Stack.{Items}
 use Rattle.pam_conf.specs.declared.conf_error.ConfError.{ConfError}
 use Rattle.pam_conf.specs.declared.rule.Kind.{Kind}
 use Rattle.pam_report.specs.Reply.{CompareValue}
 use Rattle.pam_render.specs.parts.Changes.{compared_count, is_grave, service_at}
+use Rattle.pam_render.specs.declared.parts.compared.line.Configuration.{Configuration}
+use Rattle.pam_render.specs.declared.parts.compared.line.Configuration.TheVariants.{Old, New}
 
 -- the service and the kind of a stack
 pub record Head : Type 0 where
@@ -29,6 +33,13 @@ pub record Head : Type 0 where
 pub record Side : Type 0 where
   pub files : Folder
   pub fault : Option ConfError
+
+-- the stack of a service in one of the configurations, with its files
+pub record StackOfOne : Type 0 where
+  pub head : Head
+  pub configuration : Configuration
+  pub files : Folder
+  pub items : Items
 
 -- a line of a comparison
 pub data Line : Type 0 where
@@ -47,6 +58,8 @@ pub data Line : Type 0 where
   Same : Head → StackPair → Line
   -- stacks that can be in too many situations
   NotKnown : Head → Line
+  -- a module that this stack alone has, and that guards a login
+  Guard : StackOfOne → GuardingModule → Line
   -- the last line: the number of stacks, and what changes in how many
   Last : ℕ → Counts → Line
 
@@ -74,18 +87,32 @@ module _ (line : Line → List ℕ) where
   decisions_lines head pair (Known changes) = changes_lines head pair changes
   decisions_lines head pair DecisionsNotKnown = line (NotKnown head)
 
+  abbrev pub guard_lines : StackOfOne → List GuardingModule → List ℕ
+  guard_lines stack guards = flat_map (λ g. line (Guard stack g)) guards
+
+  -- the modules that guard a login, and that were removed or added, also where no decision changes
+  abbrev pub guards_lines : CompareValue → Head → StackPair → List ℕ
+  guards_lines value head pair =
+      guard_lines (record { head = head; configuration = Old; files = value.old; items = pair.old }) pair.guards.removed.items
+      ++ guard_lines (record { head = head; configuration = New; files = value.new; items = pair.new }) pair.guards.added.items
+
+  abbrev pub told_lines : CompareValue → Head → StackPair → List ℕ
+  told_lines value head pair = decisions_lines head pair pair.decisions ++ guards_lines value head pair
+
   -- THE LINES of two stacks
-  abbrev pub pair_lines : Head → StackPair → List ℕ
-  pair_lines head pair = flat_map (λ matched. line (Arguments head pair matched)) pair.modules.arguments.items ++ decisions_lines head pair pair.decisions
+  abbrev pub pair_lines : CompareValue → Head → StackPair → List ℕ
+  pair_lines value head pair =
+      flat_map (λ matched. line (Arguments head pair matched)) pair.modules.arguments.items ++ told_lines value head pair
 
   -- A STACK
 
   -- the lines of two stacks, or at which service they were met first. All stacks of a pair are of one kind
-  abbrev pub pair_at : List ComparedService → ComparedStack → StackPair → List ℕ
-  pair_at services stack pair =
+  abbrev pub pair_at : CompareValue → ComparedStack → StackPair → List ℕ
+  pair_at value stack pair =
+      let services = value.changes.services.items in
       let head : Head = record { service = service_at services stack.service; kind = stack.kind } in
       let first : Head = record { service = service_at services pair.service; kind = pair.kind } in
-      if stack.service == pair.service then pair_lines head pair else line (As head first)
+      if stack.service == pair.service then pair_lines value head pair else line (As head first)
 
   abbrev pub refused_line : CompareValue → ComparedStack → Option ConfError → Option ConfError → List ℕ
   refused_line value stack old new =
@@ -97,7 +124,7 @@ module _ (line : Line → List ℕ) where
   stack_in value stack changes.Same = []
   stack_in value stack (changes.Refused old new) = refused_line value stack old new
   stack_in value stack (changes.Differs position) =
-      option_map_or (pair_at value.changes.services.items stack) (slice_get value.changes.pairs.items position) []
+      option_map_or (pair_at value stack) (slice_get value.changes.pairs.items position) []
 
   -- THE LINES of a stack, none if nothing changes in it
   unfoldable pub lines_of_stack : CompareValue → ComparedStack → List ℕ

@@ -1,5 +1,5 @@
 -- THE SARIF of `check`: one JSON document in SARIF 2.1.0, with one run, that of this program.
-use Rattle.std.specs.Prelude.{◌≡◌, ℕ, Bool, true, false, List, [], ◌∷◌, codes, Result, Ok}
+use Rattle.std.specs.Prelude.{◌≡◌, ℕ, List, [], ◌∷◌, codes, Result, Ok}
 use Rattle.pam_paths.specs.declared.cursor.CursorError.{CursorError}
 use Rattle.pam_render.specs.json_lines.Line.{items_of, line, members_of}
 use Rattle.pam_render.specs.parts.Check.{Names, names_of_value}
@@ -34,11 +34,6 @@ named_sarif names value = line (document_members names value)
 -- THE SARIF of `check`
 abbrev pub check_sarif : CheckValue → List ℕ
 check_sarif value = named_sarif (names_of_value value) value
-
--- the replies that have SARIF
-abbrev pub has_sarif : Reply → Bool
-has_sarif (Check found) = true
-has_sarif reply = false
 
 -- THE SARIF of a reply, which those of other commands have not
 abbrev pub IsSarif : Reply → Result (List ℕ) CursorError → Type 0

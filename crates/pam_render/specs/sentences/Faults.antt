@@ -85,9 +85,16 @@ abbrev pub named_text : MisspelledText → Naming → List ℕ
 named_text misspelled naming =
     naming.before ++ quoted misspelled.word ++ after_text naming.after misspelled.word ++ mending_text misspelled.nearest naming.mending
 
+-- a file that is not there may be a link that leads nowhere
+unfoldable pub dead_naming : Naming
+dead_naming = record { before = []; after = codes " is a link that leads nowhere"; mending = codes "make the file that it names, or mend the link" }
+
+abbrev pub naming_for : MisspelledText → Naming → Naming
+naming_for misspelled naming = if misspelled.leads_nowhere then dead_naming else naming
+
 -- a wrong argument comes after the name of its module
 abbrev pub naming_text : MisspelledText → Naming → List ℕ
-naming_text misspelled naming = shown_name misspelled.of ++ named_text misspelled naming
+naming_text misspelled naming = shown_name misspelled.of ++ named_text misspelled (naming_for misspelled naming)
 
 -- THE SENTENCE of a fault at a line, with the word that is wrong if it is known
 abbrev pub fault_text : ℕ → FaultKind → Option MisspelledText → List ℕ

@@ -1,6 +1,7 @@
 -- What `check` says of each problem: what is wrong, and how to mend it.
 use Rattle.std.specs.Prelude.{ℕ, Bool, true, false, ◌||◌, List, [], ◌++◌, codes, if◌then◌else◌, nat_eq, Option, None, Some}
 use Rattle.std.specs.List.{ends_with}
+use Rattle.std.specs.Option.{option_map_or}
 use Rattle.std.specs.Str.{bytes_eq}
 use Rattle.pam_facts.specs.declared.arguments.lacks.Lack.{Lack}
 use Rattle.pam_facts.specs.declared.arguments.lacks.Lack.TheVariants as lacks
@@ -21,7 +22,7 @@ use Rattle.pam_released.specs.declared.tables.difference.TableDifference.TheVari
 use Rattle.pam_released.specs.Meanings.{meaning_of, mending_of}
 use Rattle.pam_released.specs.declared.difference.Difference.{Difference}
 use Rattle.pam_report.specs.Unused.{OfAccept, OfFacts, UnusedText}
-use Rattle.pam_render.specs.sentences.Faults.{Naming, fault_text, naming_text}
+use Rattle.pam_render.specs.sentences.Faults.{Naming, dead_naming, fault_text, naming_text}
 use Rattle.pam_render.specs.sentences.Tables.{table_difference_sentence}
 
 abbrev pub level_name : Level → List ℕ
@@ -53,29 +54,8 @@ nobody_sentence = codes " never succeeds, whatever its modules answer; look for 
 abbrev pub anybody_sentence : List ℕ
 anybody_sentence = codes " succeeds although no module that checks who logs in does"
 
-abbrev pub asked_sentence : List ℕ
-asked_sentence =
-    codes "the module is never asked, whatever other modules answer; remove the rule, or mend a control above that ends the stack or jumps over it"
-
 abbrev pub jump_sentence : List ℕ
 jump_sentence = codes "a jump past the end of the list, which fails the stack; jump over fewer items"
-
-abbrev pub no_module_sentence : List ℕ
-no_module_sentence =
-    codes "no folder of modules has this module, so it always answers module_unknown; install it, or remove the rule"
-
--- the text before and after the path of the module, and what to do if no module that is there has a near name
-unfoldable pub module_naming : Naming
-module_naming = record {
-  before = codes "no folder of modules has ";
-  after = codes ", so it always answers module_unknown";
-  mending = codes "install it, or remove the rule";
-}
-
--- with the path if it is known
-abbrev pub module_text : Option MisspelledText → List ℕ
-module_text None = no_module_sentence
-module_text (Some misspelled) = naming_text misspelled module_naming
 
 abbrev pub no_other_sentence : List ℕ
 no_other_sentence = codes "there is no file other, which decides for each service without a file; make one that denies"
@@ -131,26 +111,6 @@ left_over_sentence = codes "a copy that an editor or a package left, for which n
 abbrev pub inside_sentence : List ℕ
 inside_sentence =
     codes "a jump into the middle of what an include brings in, so a line added there changes where it goes; jump to its first item or past its last"
-
-abbrev pub no_function_sentence : List ℕ
-no_function_sentence = codes "the module has no function for this kind, so it always answers module_unknown; remove the rule"
-
--- S14: in the service of a daemon, and in one that may be that of another program
-abbrev pub daemon_sentence : List ℕ
-daemon_sentence = codes "the module looks at the user of the process, which in this service is always root; remove the rule"
-
-abbrev pub caller_sentence : List ℕ
-caller_sentence =
-    codes "the module looks at the user of the process, which is root where a daemon asks; remove the rule unless users start the program"
-
-abbrev pub unknown_module_sentence : List ℕ
-unknown_module_sentence =
-    codes "nothing is known of the module, so it is taken for one that checks who logs in; a row of a facts file says what it does"
-
--- S26
-abbrev pub vain_sentence : List ℕ
-vain_sentence =
-    codes "whenever the module answers success, the stack fails, whatever other modules answer; mend its control, or what a success leads to"
 
 -- S27
 abbrev pub link_sentence : List ℕ
@@ -228,7 +188,55 @@ abbrev pub unused_said : UnusedText → List ℕ
 unused_said (OfAccept line) = unused_sentence
 unused_said (OfFacts line name) = naming_text name idle_naming
 
--- of a problem that is neither a fault nor a difference
+-- S14: in the service of a daemon, and in one that may be that of another program
+abbrev pub caller_naming : Bool → Naming
+caller_naming true =
+    record { before = []; after = codes " looks at the user of the process, which in this service is always root"; mending = codes "remove the rule" }
+caller_naming false = record {
+  before = [];
+  after = codes " looks at the user of the process, which is root where a daemon asks";
+  mending = codes "remove the rule unless users start the program";
+}
+
+-- the findings that are about the module of a rule: the text before and after its path, and how to mend it if no module that is there is near
+unfoldable pub naming_of_module : Problem → Option Naming
+naming_of_module problems.NeverAsked = Some record {
+  before = [];
+  after = codes " is never asked, whatever other modules answer";
+  mending = codes "remove the rule, or mend a control above that ends the stack or jumps over it";
+}
+naming_of_module (problems.NoModule is_dashed) = Some record {
+  before = codes "no folder of modules has ";
+  after = codes ", so it always answers module_unknown";
+  mending = codes "install it, or remove the rule";
+}
+naming_of_module problems.NoFunction = Some record {
+  before = [];
+  after = codes " has no function for this kind, so it always answers module_unknown";
+  mending = codes "remove the rule";
+}
+naming_of_module (problems.CallerIsRoot is_daemon) = Some (caller_naming is_daemon)
+naming_of_module problems.UnknownModule = Some record {
+  before = codes "nothing is known of ";
+  after = codes ", so it is taken for one that checks who logs in";
+  mending = codes "a row of a facts file says what it does";
+}
+naming_of_module problems.SuccessNeverCounts = Some record {
+  before = codes "whenever ";
+  after = codes " answers success, the stack fails, whatever other modules answer";
+  mending = codes "mend its control, or what a success leads to";
+}
+naming_of_module problem = None
+
+-- where the path of the module is not told
+abbrev pub untold_text : Naming → List ℕ
+untold_text naming = naming.before ++ codes "the module" ++ naming.after ++ codes "; " ++ naming.mending
+
+abbrev pub module_text : Naming → Option MisspelledText → List ℕ
+module_text naming None = untold_text naming
+module_text naming (Some misspelled) = naming_text misspelled naming
+
+-- of a problem that is neither a fault nor a difference, nor about the module of a rule
 unfoldable pub problem_sentence : Problem → List ℕ
 problem_sentence (problems.Fault fault) = []
 problem_sentence (problems.Walk fault) = []
@@ -237,25 +245,34 @@ problem_sentence problems.EmptySeparator = []
 problem_sentence (problems.IncludedFromVendor is_at_include) = if is_at_include then at_included_sentence else included_sentence
 problem_sentence (problems.LetsNobodyIn service kind) = nobody_sentence
 problem_sentence (problems.LetsAnybodyIn service is_greeter) = anybody_sentence
-problem_sentence problems.NeverAsked = asked_sentence
+problem_sentence problems.NeverAsked = []
 problem_sentence problems.JumpPastEnd = jump_sentence
-problem_sentence (problems.NoModule is_dashed) = no_module_sentence
+problem_sentence (problems.NoModule is_dashed) = []
 problem_sentence problems.NoOther = no_other_sentence
 problem_sentence problems.UnreachableName = unreachable_sentence
 problem_sentence (problems.TooLarge service kind) = large_sentence
 problem_sentence (problems.OtherAnswers service kind has_no_rule lets_nobody_in) = other_sentence has_no_rule lets_nobody_in
 problem_sentence problems.LeftOver = left_over_sentence
 problem_sentence problems.JumpIntoInclude = inside_sentence
-problem_sentence problems.NoFunction = no_function_sentence
-problem_sentence (problems.CallerIsRoot is_daemon) = if is_daemon then daemon_sentence else caller_sentence
+problem_sentence problems.NoFunction = []
+problem_sentence (problems.CallerIsRoot is_daemon) = []
 problem_sentence (problems.Argument argument wrong) = argument_sentence
 problem_sentence (problems.BadArguments lack) = lack_sentence lack
 problem_sentence (problems.StoredThoughRefused by) = refused_sentence by
 problem_sentence (problems.NotCounted counts) = if counts then not_refused_sentence else not_counted_sentence
 problem_sentence problems.NoFailureCounted = no_failure_sentence
-problem_sentence problems.UnknownModule = unknown_module_sentence
-problem_sentence problems.SuccessNeverCounts = vain_sentence
+problem_sentence problems.UnknownModule = []
+problem_sentence problems.SuccessNeverCounts = []
 problem_sentence problems.LinkOutside = link_sentence
+
+-- with the path of the module if it is known
+abbrev pub problem_text : Problem → Option MisspelledText → List ℕ
+problem_text problem misspelled = option_map_or (λ naming. module_text naming misspelled) (naming_of_module problem) (problem_sentence problem)
+
+-- S6, of `other` if that is a link that leads nowhere
+abbrev pub other_text : Option MisspelledText → List ℕ
+other_text None = no_other_sentence
+other_text (Some misspelled) = naming_text misspelled dead_naming
 
 -- WHAT IS SAID of a problem at a line, with the word that is wrong if it is known
 abbrev pub said : ℕ → Problem → Option MisspelledText → List ℕ
@@ -263,6 +280,6 @@ said line (problems.Fault fault) misspelled = fault_text line fault misspelled
 said line (problems.Walk fault) misspelled = fault_text line fault misspelled
 said line (problems.Released difference) misspelled = released_sentence difference
 said line problems.EmptySeparator misspelled = separator_sentence
-said line (problems.NoModule is_dashed) misspelled = module_text misspelled
+said line problems.NoOther misspelled = other_text misspelled
 said line (problems.Argument argument wrong) misspelled = argument_text wrong misspelled
-said line problem misspelled = problem_sentence problem
+said line problem misspelled = problem_text problem misspelled

@@ -4,6 +4,9 @@ use Rattle.std.specs.Prelude.{Option, None, Some}
 use Rattle.std.specs.List.{flat_map}
 use Rattle.std.specs.Option.{option_map_or}
 use Rattle.pam_changes.specs.declared.counts.Counts.{Counts}
+use Rattle.pam_changes.specs.declared.guards.Guard.{Guard}
+use Rattle.pam_changes.specs.declared.guards.Guard.TheVariants as guards
+use Rattle.pam_changes.specs.declared.guards.GuardingModule.{GuardingModule}
 use Rattle.pam_changes.specs.declared.modules.MatchedPair.{MatchedPair}
 use Rattle.pam_changes.specs.declared.pair.Shown.{Shown}
 use Rattle.pam_changes.specs.declared.pair.StackPair.{StackPair}
@@ -14,8 +17,11 @@ use Rattle.pam_compare.specs.declared.comparing.TheConstants.{MAX_SITUATIONS}
 use Rattle.pam_conf.specs.Files.{Folder}
 use Rattle.pam_conf.specs.Stack.{Items, module_at}
 use Rattle.pam_conf.specs.declared.conf_error.ConfError.{ConfError}
-use Rattle.pam_render.specs.parts.Changes.{occurrence}
-use Rattle.pam_render.specs.parts.Compared.{Arguments, As, Change, Head, Last, Line, NotKnown, OnlyInNew, OnlyInOld, Refused, Same, Side, compared_lines}
+use Rattle.pam_render.specs.declared.parts.compared.line.Configuration.{Configuration}
+use Rattle.pam_render.specs.declared.parts.compared.line.Configuration.TheVariants as one
+use Rattle.pam_render.specs.parts.Changes.{change_name, configuration_name, file_of_rule, line_of_rule, occurrence}
+use Rattle.pam_render.specs.parts.Compared.{Arguments, As, Change, Guard as GuardOf, Head, Last, Line, NotKnown, OnlyInNew, OnlyInOld, Refused, Same, Side}
+use Rattle.pam_render.specs.parts.Compared.{StackOfOne, compared_lines}
 use Rattle.pam_report.specs.Decide.{path_at}
 use Rattle.pam_report.specs.Fault.{file_at}
 use Rattle.pam_report.specs.FaultTable.{conf_row}
@@ -150,6 +156,30 @@ unfoldable pub refused_line : Head → Side → Side → List ℕ
 refused_line head old new =
     head_text head ++ codes " refused: old " ++ side_text old.files old.fault ++ codes ", new " ++ side_text new.files new.fault ++ codes "\n"
 
+-- A MODULE THAT GUARDS A LOGIN
+
+-- what it does
+abbrev pub guard_words : Guard → List ℕ
+guard_words guards.Checks = codes "checks who logs in"
+guard_words guards.Refuses = codes "may refuse a login"
+guard_words guards.Counts = codes "counts failed logins"
+
+-- what comes after its number
+abbrev pub counted_in : Configuration → List ℕ
+counted_in one.Old = []
+counted_in one.New = codes " of new"
+
+-- ` FILE:LINE` of its rule, if there is a file
+abbrev pub rule_place : Folder → Items → ℕ → List ℕ
+rule_place files items number = place_text (file_of_rule files items number) (line_of_rule items number)
+
+-- `SERVICE KIND removed: MODULE, which counts failed logins (old FILE:LINE)`
+unfoldable pub guard_line : StackOfOne → GuardingModule → List ℕ
+guard_line stack g =
+    head_text stack.head ++ codes " " ++ change_name stack.configuration ++ codes ": "
+    ++ module_text (counted_in stack.configuration) stack.items g.number ++ codes ", which " ++ guard_words g.guard ++ codes " ("
+    ++ configuration_name stack.configuration ++ rule_place stack.files stack.items g.number ++ codes ")\n"
+
 -- `SERVICE KIND as SERVICE KIND`
 unfoldable pub as_line : Head → Head → List ℕ
 as_line head first = head_text head ++ codes " as " ++ head_text first ++ codes "\n"
@@ -178,6 +208,7 @@ line_text (Arguments head pair matched) = argument_line head pair matched
 line_text (Change head pair change shown) = change_line head pair change shown
 line_text (Same head pair) = same_line head pair
 line_text (NotKnown head) = not_known_line head
+line_text (GuardOf stack guarding) = guard_line stack guarding
 line_text (Last stacks counts) = last_line stacks counts
 
 -- THE TEXT of `compare`: which lines come, in which order, says `compared_lines`

@@ -12,7 +12,7 @@ mod values;
 use crate::json_lines::{Member, put_line};
 use crate::json_text::form::AsJson;
 use crate::parts::{CompareLine, CompareLines};
-use pair::{put_arguments, put_change, put_not_known, put_same};
+use pair::{put_arguments, put_change, put_guard, put_not_known, put_same};
 use pam_changes::Counts;
 use pam_codes::{Device, Out};
 use stack::{put_as, put_refused};
@@ -68,6 +68,7 @@ impl CompareLines for AsJson {
             CompareLine::Change(stack, change, shown) => put_change(stack, change, shown, out),
             CompareLine::Same(stack) => put_same(stack, out),
             CompareLine::NotKnown(head) => put_not_known(head, out),
+            CompareLine::Guard(stack, guarding) => put_guard(stack, guarding, out),
             CompareLine::Last { stacks, counts } => put_counts(stacks, counts, out),
         }
     }

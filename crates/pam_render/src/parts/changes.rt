@@ -3,8 +3,10 @@
 ghost use Rattle.std.specs.Prelude.{◌≡◌, option_map};
 ghost use Rattle.pam_report.specs.Fault.{file_at};
 ghost use Rattle.pam_report.specs.ReplyViews.{side_files};
-ghost use Rattle.pam_render.specs.parts.Changes.{compared_count, is_grave, is_stack, occurrence, service_at};
+ghost use Rattle.pam_render.specs.parts.Changes.{change_name, compared_count, configuration_name, file_of_rule, is_grave, is_stack, line_of_rule};
+ghost use Rattle.pam_render.specs.parts.Changes.{occurrence, service_at};
 
+use super::compared::Configuration;
 use pam_changes::{ComparedService, ComparedStack, ShownChanges, StackChange};
 use pam_conf::{ConfError, Files, Stack};
 use pam_report::path_at;
@@ -67,5 +69,45 @@ pub fn file_of<'a>(files: Option<&'a Files>, fault: &ConfError) -> Option<&'a [u
     match (files, fault.at) {
         (Some(files), Some(position)) => files.name(position),
         _ => None,
+    }
+}
+
+/// Returns the name of the file of a module's rule, if there is one.
+pub fn file_of_rule<'a>(files: Option<&'a Files>, stack: &Stack, number: usize) -> Option<&'a [u8]>
+    ensures { option_map (λ name. name.now) result ≡ file_of_rule (side_files files.entry) stack.now number }
+{
+    match (files, stack.module(number)) {
+        (Some(files), Some(module)) => files.name(module.file),
+        _ => None,
+    }
+}
+
+/// Returns the line of a module's rule, 0 if there is no module.
+pub fn line_of_rule(stack: &Stack, number: usize) -> usize
+    ensures { result ≡ line_of_rule stack.now number }
+{
+    match stack.module(number) {
+        Some(module) => module.line,
+        None => 0,
+    }
+}
+
+/// Returns what became of a module that a configuration alone has.
+pub fn change_name(configuration: Configuration) -> &'static [u8]
+    ensures { result.now ≡ change_name configuration }
+{
+    match configuration {
+        Configuration::Old => b"removed",
+        Configuration::New => b"added",
+    }
+}
+
+/// Returns the name of a configuration.
+pub fn configuration_name(configuration: Configuration) -> &'static [u8]
+    ensures { result.now ≡ configuration_name configuration }
+{
+    match configuration {
+        Configuration::Old => b"old",
+        Configuration::New => b"new",
     }
 }

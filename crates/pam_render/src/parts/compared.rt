@@ -10,7 +10,7 @@ mod pair;
 mod stack;
 
 use crate::parts::changes::compared_count;
-pub use line::{CompareLine, DifferingStack, Head, RefusedStack, Side};
+pub use line::{CompareLine, Configuration, DifferingStack, Head, RefusedStack, Side, StackOfOne};
 use pam_changes::{ComparedService, ComparedStack};
 use pam_report::CompareReply;
 use pam_text::{Device, Out};

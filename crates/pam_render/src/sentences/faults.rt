@@ -202,6 +202,29 @@ fn put_named<W: Write>(
     put_mending(nearest_of(misspelled), naming.mending, out)
 }
 
+/// Returns how a file is named that is a link which leads nowhere.
+#[tactic(auto, unfolding(crate::specs::sentences::Faults::dead_naming))]
+pub fn dead_naming() -> Naming
+    ensures { naming_view result ≡ spec.dead_naming }
+{
+    Naming {
+        before: "",
+        after: " is a link that leads nowhere",
+        mending: "make the file that it names, or mend the link",
+    }
+}
+
+/// Returns how a word is named: that of a link that leads nowhere as such, any other one in this way.
+pub(crate) fn naming_for(misspelled: &Misspelled, naming: Naming) -> Naming
+    ensures { naming_view result ≡ spec.naming_for (misspelled_view misspelled.now) (naming_view naming) }
+{
+    if misspelled.leads_nowhere {
+        dead_naming()
+    } else {
+        naming
+    }
+}
+
 /// Writes what is wrong with a word.
 pub(crate) fn put_naming<W: Write>(
     naming: Naming,
@@ -211,7 +234,7 @@ pub(crate) fn put_naming<W: Write>(
     ensures { Writes W.contents out.old out.new result (spec.naming_text (misspelled_view misspelled.now) (naming_view naming)) }
 {
     put_name(&misspelled.module, out)?;
-    put_named(naming, misspelled, out)
+    put_named(naming_for(misspelled, naming), misspelled, out)
 }
 
 /// Writes what is wrong at this line, and how to mend it, with the word that is wrong if it is known.

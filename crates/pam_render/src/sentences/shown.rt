@@ -30,7 +30,7 @@ fn put_hex_digit<W: Write>(digit: u8, out: &mut Out<W>) -> Result<(), Device>
 }
 
 /// Whether a character cannot be seen, or changes how those beside it are seen.
-fn is_hidden(character: u32) -> bool
+pub(crate) fn is_hidden(character: u32) -> bool
     ensures { result ≡ is_hidden character }
 {
     matches!(
@@ -47,7 +47,7 @@ fn is_hidden(character: u32) -> bool
 }
 
 /// The character of two bytes in UTF-8; 0 where they are none.
-fn two_bytes(first: u8, second: u8) -> u32
+pub(crate) fn two_bytes(first: u8, second: u8) -> u32
     ensures { result ≡ two_bytes first second }
 {
     if 0xc0 <= first && first < 0xe0 && 0x80 <= second && second < 0xc0 {
@@ -58,7 +58,7 @@ fn two_bytes(first: u8, second: u8) -> u32
 }
 
 /// The character of three bytes in UTF-8; 0 where they are none.
-fn three_bytes(first: u8, second: u8, third: u8) -> u32
+pub(crate) fn three_bytes(first: u8, second: u8, third: u8) -> u32
     ensures { result ≡ three_bytes first second third }
 {
     if 0xe0 <= first
@@ -75,7 +75,7 @@ fn three_bytes(first: u8, second: u8, third: u8) -> u32
 }
 
 /// The byte at this index, or 0 where there is none.
-fn byte_at(bytes: &[u8], index: usize) -> u8
+pub(crate) fn byte_at(bytes: &[u8], index: usize) -> u8
     ensures { result ≡ slice_index_or bytes.now index 0 }
 {
     if index < bytes.len() { bytes[index] } else { 0 }
@@ -168,7 +168,11 @@ fn is_numbered(hidden: usize, byte: u8) -> bool
 
 /// Writes a byte, as `\x0a` if it is shown by its number.
 #[tactic(auto, unfolding(crate::specs::sentences::Shown::shown_byte))]
-fn put_byte<W: Write>(is_numbered: bool, byte: u8, out: &mut Out<W>) -> Result<(), Device>
+pub(crate) fn put_byte<W: Write>(
+    is_numbered: bool,
+    byte: u8,
+    out: &mut Out<W>,
+) -> Result<(), Device>
     ensures { Writes W.contents out.old out.new result (shown_byte is_numbered byte) }
 {
     if !is_numbered {

@@ -14,7 +14,7 @@ mod stack;
 use crate::parts::{CompareLine, CompareLines};
 use crate::sentences::put_name;
 use crate::text::form::AsText;
-use pair::{put_argument_line, put_change, put_not_known, put_same};
+use pair::{put_argument_line, put_change, put_guard, put_not_known, put_same};
 use pam_changes::Counts;
 use pam_codes::{Device, Out};
 use parts::{Part, put_parts};
@@ -81,6 +81,7 @@ impl CompareLines for AsText {
             CompareLine::Change(stack, change, shown) => put_change(stack, change, shown, out),
             CompareLine::Same(stack) => put_same(stack, out),
             CompareLine::NotKnown(head) => put_not_known(head, out),
+            CompareLine::Guard(stack, guarding) => put_guard(stack, guarding, out),
             CompareLine::Last { stacks, counts } => put_last_line(stacks, counts, out),
         }
     }

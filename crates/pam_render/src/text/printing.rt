@@ -1,16 +1,17 @@
 //! Replies, written as text.
 
 ghost use Rattle.std.specs.Prelude.{◌≡◌, MatchOption, false, map};
+ghost use Rattle.pam_render.specs.parts.Findings.{is_check};
 ghost use Rattle.pam_render.specs.parts.Prints.{PrintsBy};
-ghost use Rattle.pam_render.specs.sarif.Document.{has_sarif};
 ghost use Rattle.pam_report.specs.Reply.{Check};
 ghost use Rattle.pam_report.specs.ReplyViews.{check_view, reply_view};
 ghost use Rattle.pam_render.specs.text.Answer.{Answers};
 ghost use Rattle.pam_render.specs.text.inner.Leaves.{Prints};
 ghost use Rattle.pam_render.specs.text.Text.{IsTextIn};
 ghost use Rattle.pam_words.specs.Wanted.{candidate_view};
-ghost use Rattle.pam_words.specs.declared.wanted.OutputForm.TheVariants.{Json, Sarif};
+ghost use Rattle.pam_words.specs.declared.wanted.OutputForm.TheVariants.{Full, Json, Sarif};
 
+use crate::full_text::write_full;
 use crate::json_text::print_if_any;
 use crate::parts::{with_write_fault, write_check, write_compared, write_policy, write_stacks};
 use crate::sarif::write_sarif;
@@ -30,7 +31,8 @@ use pam_words::{OutputForm, Request};
 use std::alloc::Global;
 use std::io::Write;
 
-/// Writes the text of a reply in a form, and flushes once, at its end. A reply that has no JSON or SARIF is written as text.
+/// Writes the text of a reply in a form, and flushes once, at its end. A reply that has no JSON, SARIF or full text is
+/// written as text.
 ///
 /// For a page of paths, a cursor that is refused is found before the first byte is written; for a page, a drawing, a check and
 /// policies, so is want of memory. Nothing is allocated after it.
@@ -44,6 +46,7 @@ pub fn print<W: Write>(
 {
     match output {
         OutputForm::PlainText => print_text(alloc, reply, out),
+        OutputForm::Full => print_full(alloc, reply, out),
         OutputForm::Json => print_json(alloc, reply, out),
         OutputForm::Sarif => print_sarif(alloc, reply, out),
     }
@@ -61,6 +64,17 @@ fn print_json<W: Write>(alloc: Global, reply: &Reply<'_>, out: &mut Out<W>) -> R
     }
 }
 
+/// Writes the full text of a check, or the text of another reply.
+#[inline(never)]
+fn print_full<W: Write>(alloc: Global, reply: &Reply<'_>, out: &mut Out<W>) -> Result<(), Fault>
+    ensures { PrintsBy W.contents (IsTextIn Full) out.old out.new result (reply_view reply.now) }
+{
+    match check_in(reply) {
+        Some(check) => write_full(alloc, check, out),
+        None => print_text(alloc, reply, out),
+    }
+}
+
 /// Writes the SARIF of a check, or the text of another reply.
 #[inline(never)]
 fn print_sarif<W: Write>(alloc: Global, reply: &Reply<'_>, out: &mut Out<W>) -> Result<(), Fault>
@@ -74,7 +88,7 @@ fn print_sarif<W: Write>(alloc: Global, reply: &Reply<'_>, out: &mut Out<W>) -> 
 
 /// Returns the check that a reply is, if it is one.
 fn check_in<'x>(reply: &'x Reply<'_>) -> Option<&'x CheckReply<'x>>
-    ensures { MatchOption result (has_sarif (reply_view reply.now) ≡ false)
+    ensures { MatchOption result (is_check (reply_view reply.now) ≡ false)
         (λ check. reply_view reply.now ≡ Check (check_view check.now)) }
 {
     match reply {

@@ -1,21 +1,22 @@
 //! What is said of problems, as strings.
 
-ghost use Rattle.std.specs.Prelude.{◌≡◌, [], ◌∷◌};
+ghost use Rattle.std.specs.Prelude.{◌≡◌, [], ◌∷◌, None};
 ghost use Rattle.pam_codes.specs.Out.{Writes};
 ghost use Rattle.pam_render.specs.json_lines.Line.{joined};
 ghost use Rattle.pam_findings.specs.misspelled.MisspelledView.{misspelled_view};
 ghost use Rattle.pam_render.specs.parts.CheckNames.{word_of};
 ghost use Rattle.pam_render.specs.sentences.NamingView.{naming_view};
 ghost use Rattle.serde_json.specs.Written.{compact_text};
-ghost use Rattle.pam_render.specs.json_text.Sentences.{argument_parts, fault_parts, module_parts, naming_parts, problem_parts};
-ghost use Rattle.pam_render.specs.json_text.Sentences.{released_parts, said_parts, subject_name};
+ghost use Rattle.pam_render.specs.json_text.Sentences.{argument_parts, fault_parts, module_parts, named_parts, naming_parts};
+ghost use Rattle.pam_render.specs.json_text.Sentences.{other_parts, plain_parts, problem_parts, released_parts, said_parts, subject_name};
 ghost use Rattle.pam_render.specs.json_text.Sentences.{table_difference_parts, table_parts, unused_parts};
 ghost use Rattle.pam_report.specs.Unused.{unused_view};
 
 use crate::json_lines::{Part, put_joined};
 use crate::sentences::{
-    Naming, UNUSED, argument_naming, hidden_text, idle_naming, module_naming, naming_of,
-    plain_sentence, problem_sentence, table_fault_sentence, time_fault_sentence,
+    Naming, UNTOLD_MODULE, UNUSED, argument_naming, dead_naming, hidden_text, idle_naming,
+    naming_for, naming_of, naming_of_module, plain_sentence, problem_sentence,
+    table_fault_sentence, time_fault_sentence,
 };
 use pam_codes::{Device, Out};
 use pam_conf::{FaultKind, Kind};
@@ -40,12 +41,12 @@ fn put_one<W: Write>(text: &str, out: &mut Out<W>) -> Result<(), Device>
 }
 
 /// Writes what is wrong with a word, and the nearest right word, or else how to mend the word.
-fn put_named<W: Write>(
+fn put_parts<W: Write>(
     naming: Naming,
     misspelled: &Misspelled,
     out: &mut Out<W>,
 ) -> Result<(), Device>
-    ensures { Writes W.contents out.old out.new result (compact_text (joined (naming_parts (misspelled_view misspelled.now) (naming_view naming)))) }
+    ensures { Writes W.contents out.old out.new result (compact_text (joined (named_parts (misspelled_view misspelled.now) (naming_view naming)))) }
 {
     match &misspelled.nearest {
         Some(right) => put_joined(
@@ -78,6 +79,17 @@ fn put_named<W: Write>(
             out,
         ),
     }
+}
+
+/// Writes what is wrong with a word, of the name of a link that leads nowhere that it does.
+fn put_named<W: Write>(
+    naming: Naming,
+    misspelled: &Misspelled,
+    out: &mut Out<W>,
+) -> Result<(), Device>
+    ensures { Writes W.contents out.old out.new result (compact_text (joined (naming_parts (misspelled_view misspelled.now) (naming_view naming)))) }
+{
+    put_parts(naming_for(misspelled, naming), misspelled, out)
 }
 
 /// Writes what is wrong at this line, with the word that is wrong if it is known.
@@ -139,9 +151,9 @@ fn subject_name(stack: Option<(Option<usize>, Kind)>) -> &'static str
     }
 }
 
-/// Writes what is wrong of a problem that is neither a fault nor a difference.
-fn put_problem<W: Write>(problem: Problem, out: &mut Out<W>) -> Result<(), Device>
-    ensures { Writes W.contents out.old out.new result (compact_text (joined (problem_parts problem))) }
+/// Writes what is wrong of a problem that is neither a fault nor a difference, nor about the module of a rule.
+fn put_sentence<W: Write>(problem: Problem, out: &mut Out<W>) -> Result<(), Device>
+    ensures { Writes W.contents out.old out.new result (compact_text (joined (plain_parts problem))) }
 {
     put_joined(
         &[
@@ -152,17 +164,57 @@ fn put_problem<W: Write>(problem: Problem, out: &mut Out<W>) -> Result<(), Devic
     )
 }
 
-/// Writes that the module that a line names is not there, with its path if it is known.
+/// Writes what is wrong with a module whose path is not told.
+fn put_untold<W: Write>(naming: Naming, out: &mut Out<W>) -> Result<(), Device>
+    ensures { Writes W.contents out.old out.new result (compact_text (joined (module_parts (naming_view naming) None))) }
+{
+    put_joined(
+        &[
+            Part(naming.before.as_bytes()),
+            Part(UNTOLD_MODULE),
+            Part(naming.after.as_bytes()),
+            Part(b"; "),
+            Part(naming.mending.as_bytes()),
+        ],
+        out,
+    )
+}
+
+/// Writes what is wrong with a module, with its path if it is known.
 fn put_module<W: Write>(
+    naming: Naming,
+    word: Option<&Misspelled>,
+    out: &mut Out<W>,
+) -> Result<(), Device>
+    ensures { Writes W.contents out.old out.new result (compact_text (joined (module_parts (naming_view naming) (word_of word.entry)))) }
+{
+    match word {
+        Some(misspelled) => put_named(naming, misspelled, out),
+        None => put_untold(naming, out),
+    }
+}
+
+/// Writes that there is no `other`, or that it is a link which leads nowhere.
+fn put_no_other<W: Write>(word: Option<&Misspelled>, out: &mut Out<W>) -> Result<(), Device>
+    ensures { Writes W.contents out.old out.new result (compact_text (joined (other_parts (word_of word.entry)))) }
+{
+    match word {
+        Some(misspelled) => put_named(dead_naming(), misspelled, out),
+        None => put_sentence(Problem::NoOther, out),
+    }
+}
+
+/// Writes what is wrong of a problem that is neither a fault nor a difference, with the path of the module if it is about one.
+fn put_problem<W: Write>(
     problem: Problem,
     word: Option<&Misspelled>,
     out: &mut Out<W>,
 ) -> Result<(), Device>
-    ensures { Writes W.contents out.old out.new result (compact_text (joined (module_parts problem (word_of word.entry)))) }
+    ensures { Writes W.contents out.old out.new result (compact_text (joined (problem_parts problem (word_of word.entry)))) }
 {
-    match word {
-        Some(misspelled) => put_named(module_naming(), misspelled, out),
-        None => put_problem(problem, out),
+    match naming_of_module(problem) {
+        Some(naming) => put_module(naming, word, out),
+        None => put_sentence(problem, out),
     }
 }
 
@@ -177,7 +229,7 @@ fn put_argument<W: Write>(
 {
     match word {
         Some(misspelled) => { put_named(argument_naming(wrong, &misspelled.word), misspelled, out) }
-        None => put_problem(problem, out),
+        None => put_sentence(problem, out),
     }
 }
 
@@ -194,9 +246,9 @@ pub(super) fn put_said<W: Write>(
         Problem::Fault(fault) | Problem::Walk(fault) => put_fault(line, fault, word, out),
         Problem::Released(difference) => put_released(difference, out),
         Problem::EmptySeparator => put_table_difference(TableDifference::EmptySeparator, out),
-        Problem::NoModule { .. } => put_module(problem, word, out),
+        Problem::NoOther => put_no_other(word, out),
         Problem::Argument { wrong, .. } => put_argument(problem, wrong, word, out),
-        _ => put_problem(problem, out),
+        _ => put_problem(problem, word, out),
     }
 }
 

@@ -3,14 +3,18 @@
 ghost use Rattle.std.specs.Prelude.{◌≡◌};
 ghost use Rattle.pam_codes.specs.Out.{Writes};
 ghost use Rattle.pam_render.specs.json_lines.Line.{line};
-ghost use Rattle.pam_render.specs.parts.ComparedView.{head_view};
-ghost use Rattle.pam_render.specs.json_text.Compare.{arguments_json, change_json, new_modules, not_known_members, old_modules, same_json};
+ghost use Rattle.pam_render.specs.parts.ComparedView.{head_view, stack_view};
+ghost use Rattle.pam_render.specs.json_text.Compare.{arguments_json, change_json, guard_json, guard_name, new_modules, not_known_members, old_modules};
+ghost use Rattle.pam_render.specs.json_text.Compare.{same_json};
 ghost use Rattle.pam_render.specs.json_text.inner.Written.{change_value};
 
-use super::values::ChangeValue;
+use super::values::{ChangeValue, line_in};
 use crate::json_lines::{Member, put_line};
-use crate::parts::{DifferingStack, Head, occurrence};
-use pam_changes::{MatchedPair, Shown, StackPair};
+use crate::parts::{
+    DifferingStack, Head, StackOfOne, change_name, configuration_name, file_of_rule, line_of_rule,
+    occurrence,
+};
+use pam_changes::{Guard, GuardingModule, MatchedPair, Shown, StackPair};
 use pam_codes::{Device, Out};
 use pam_compare::MAX_SITUATIONS;
 use pam_drawing::name_of;
@@ -125,4 +129,47 @@ pub(super) fn put_arguments<'x, W: Write>(
         ],
         out,
     )
+}
+
+/// Returns the name of what a module does that guards a login.
+fn guard_name(guard: Guard) -> &'static [u8]
+    ensures { result.now ≡ guard_name guard }
+{
+    match guard {
+        Guard::Checks => b"checks",
+        Guard::Refuses => b"refuses",
+        Guard::Counts => b"counts",
+    }
+}
+
+/// Writes a module that a configuration alone has, and that guards a login.
+#[tactic(auto, unfolding(crate::specs::json_text::Compare::guard_json))]
+pub(super) fn put_guard<W: Write>(
+    one: StackOfOne<'_>,
+    guarding: GuardingModule,
+    out: &mut Out<W>,
+) -> Result<(), Device>
+    ensures { Writes W.contents out.old out.new result (guard_json (stack_view one.entry) guarding) }
+{
+    let StackOfOne {
+        head,
+        configuration,
+        files,
+        stack,
+    } = one;
+    let GuardingModule { number, guard } = guarding;
+    let file = file_of_rule(files, stack, number);
+    let members: [Member<'_, ()>; 10] = [
+        Member::text("kind", b"guard"),
+        Member::readable("service", head.service),
+        Member::text("type", kind_name(head.kind).as_bytes()),
+        Member::text("change", change_name(configuration)),
+        Member::readable("module", path_at(stack, number)),
+        Member::number("occurrence", occurrence(stack, number) as u64),
+        Member::text("counted_in", configuration_name(configuration)),
+        Member::text("guard", guard_name(guard)),
+        Member::readable_if_any("file", file),
+        Member::number_if_any("line", line_in(file, line_of_rule(stack, number))),
+    ];
+    put_line(&members, out)
 }

@@ -17,7 +17,7 @@ use pam_report::conf_name;
 use std::io::Write;
 
 /// Returns a line, if there is a file.
-fn line_in(file: Option<&[u8]>, line: usize) -> Option<u64>
+pub(super) fn line_in(file: Option<&[u8]>, line: usize) -> Option<u64>
     ensures { result ≡ option_map (λ _. line) (option_map (λ f. f.now) file.entry) }
 {
     match file {

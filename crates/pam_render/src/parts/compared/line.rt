@@ -1,7 +1,7 @@
 //! The lines of a comparison.
 
-use pam_changes::{Counts, MatchedPair, Shown, StackPair};
-use pam_conf::{ConfError, Files, Kind};
+use pam_changes::{Counts, GuardingModule, MatchedPair, Shown, StackPair};
+use pam_conf::{ConfError, Files, Kind, Stack};
 
 /// The service and the kind of a stack.
 #[derive(Clone, Copy)]
@@ -33,6 +33,22 @@ pub struct DifferingStack<'x> {
     pub pair: &'x StackPair,
 }
 
+/// One of the two configurations.
+#[derive(Clone, Copy, Debug, PartialEq, Eq)]
+pub enum Configuration {
+    Old,
+    New,
+}
+
+/// The stack of a service in one of the configurations, with its files, as far as they are given.
+#[derive(Clone, Copy)]
+pub struct StackOfOne<'x> {
+    pub head: Head<'x>,
+    pub configuration: Configuration,
+    pub files: Option<&'x Files>,
+    pub stack: &'x Stack,
+}
+
 /// A line of a comparison.
 #[derive(Clone, Copy)]
 pub enum CompareLine<'x> {
@@ -52,6 +68,8 @@ pub enum CompareLine<'x> {
     Same(DifferingStack<'x>),
     /// Stacks that can be in too many situations.
     NotKnown(Head<'x>),
+    /// A module that this stack alone has, and that guards a login.
+    Guard(StackOfOne<'x>, GuardingModule),
     /// The last line: the number of stacks, and what changes in how many.
     Last { stacks: usize, counts: Counts },
 }

@@ -2,13 +2,16 @@
 
 ghost use Rattle.std.specs.List.{flat_map};
 ghost use Rattle.pam_text.specs.Out.{Writes};
-ghost use Rattle.pam_render.specs.parts.Compared.{Arguments, change_if_any, changes_lines, decisions_lines, grave_lines, pair_lines, tells_lines};
-ghost use Rattle.pam_render.specs.parts.ComparedView.{head_view};
+ghost use Rattle.pam_report.specs.ReplyViews.{compare_view};
+ghost use Rattle.pam_render.specs.parts.Compared.{Arguments, change_if_any, changes_lines, decisions_lines, grave_lines, guard_lines};
+ghost use Rattle.pam_render.specs.parts.Compared.{guards_lines, pair_lines, tells_lines, told_lines};
+ghost use Rattle.pam_render.specs.parts.ComparedView.{head_view, stack_view};
 
 use super::CompareLines;
-use super::line::{CompareLine, DifferingStack};
+use super::line::{CompareLine, Configuration, DifferingStack, StackOfOne};
 use crate::parts::changes::is_grave;
-use pam_changes::{Decisions, MatchedPair, Shown, ShownChanges};
+use pam_changes::{Decisions, GuardingModule, MatchedPair, Shown, ShownChanges};
+use pam_report::CompareReply;
 use pam_text::{Device, Out};
 use std::io::Write;
 
@@ -102,14 +105,72 @@ fn put_arguments<L: CompareLines, W: Write>(
     Ok(())
 }
 
-/// Writes the lines of two stacks.
-pub(super) fn put_pair<L: CompareLines, W: Write>(
+/// Writes the modules that a stack alone has, and that guard a login.
+fn put_guards<L: CompareLines, W: Write>(
     lines: &L,
+    stack: StackOfOne<'_>,
+    guards: &[GuardingModule],
+    out: &mut Out<W>,
+) -> Result<(), Device>
+    ensures { Writes W.contents out.old out.new result (guard_lines L.line (stack_view stack.entry) guards.now) }
+{
+    for guarding in guards {
+        lines.put_line(CompareLine::Guard(stack, *guarding), out)?;
+    }
+    Ok(())
+}
+
+/// Writes the modules that guard a login, and that were removed or added.
+fn put_all_guards<L: CompareLines, W: Write>(
+    lines: &L,
+    reply: &CompareReply<'_>,
+    differing: DifferingStack<'_>,
+    out: &mut Out<W>,
+) -> Result<(), Device>
+    ensures { Writes W.contents out.old out.new result
+        (guards_lines L.line (compare_view reply.now) (head_view differing.entry.head) differing.entry.pair.now) }
+{
+    let DifferingStack { head, pair } = differing;
+    let old = StackOfOne {
+        head,
+        configuration: Configuration::Old,
+        files: reply.old,
+        stack: &pair.old,
+    };
+    let new = StackOfOne {
+        head,
+        configuration: Configuration::New,
+        files: reply.new,
+        stack: &pair.new,
+    };
+    put_guards(lines, old, &pair.guards.removed, out)?;
+    put_guards(lines, new, &pair.guards.added, out)
+}
+
+/// Writes what changes in the decisions, and which modules that guard a login were removed or added.
+fn put_told<L: CompareLines, W: Write>(
+    lines: &L,
+    reply: &CompareReply<'_>,
     stack: DifferingStack<'_>,
     out: &mut Out<W>,
 ) -> Result<(), Device>
-    ensures { Writes W.contents out.old out.new result (pair_lines L.line (head_view stack.entry.head) stack.entry.pair.now) }
+    ensures { Writes W.contents out.old out.new result
+        (told_lines L.line (compare_view reply.now) (head_view stack.entry.head) stack.entry.pair.now) }
+{
+    put_decisions(lines, stack, out)?;
+    put_all_guards(lines, reply, stack, out)
+}
+
+/// Writes the lines of two stacks.
+pub(super) fn put_pair<L: CompareLines, W: Write>(
+    lines: &L,
+    reply: &CompareReply<'_>,
+    stack: DifferingStack<'_>,
+    out: &mut Out<W>,
+) -> Result<(), Device>
+    ensures { Writes W.contents out.old out.new result
+        (pair_lines L.line (compare_view reply.now) (head_view stack.entry.head) stack.entry.pair.now) }
 {
     put_arguments(lines, stack, &stack.pair.modules.arguments, out)?;
-    put_decisions(lines, stack, out)
+    put_told(lines, reply, stack, out)
 }

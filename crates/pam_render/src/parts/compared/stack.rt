@@ -8,7 +8,7 @@ use super::CompareLines;
 use super::line::{CompareLine, DifferingStack, Head, RefusedStack, Side};
 use super::pair::put_pair;
 use crate::parts::changes::service_at;
-use pam_changes::{ComparedService, ComparedStack, StackChange, StackPair};
+use pam_changes::{ComparedStack, StackChange, StackPair};
 use pam_report::CompareReply;
 use pam_text::{Device, Out};
 use std::io::Write;
@@ -16,19 +16,20 @@ use std::io::Write;
 /// Writes the lines of two stacks, or at which service they were met first.
 fn put_pair_at<L: CompareLines, W: Write>(
     lines: &L,
-    services: &[ComparedService],
+    reply: &CompareReply<'_>,
     stack: &ComparedStack,
     pair: &StackPair,
     out: &mut Out<W>,
 ) -> Result<(), Device>
-    ensures { Writes W.contents out.old out.new result (pair_at L.line services.now stack.now pair.now) }
+    ensures { Writes W.contents out.old out.new result (pair_at L.line (compare_view reply.now) stack.now pair.now) }
 {
+    let services = &reply.changes.services;
     let head = Head {
         service: service_at(services, stack.service),
         kind: stack.kind,
     };
     if stack.service == pair.service {
-        return put_pair(lines, DifferingStack { head, pair }, out);
+        return put_pair(lines, reply, DifferingStack { head, pair }, out);
     }
     let first = Head {
         service: service_at(services, pair.service),
@@ -65,7 +66,7 @@ pub(super) fn put_stack<L: CompareLines, W: Write>(
             lines.put_line(CompareLine::Refused(RefusedStack { head, old, new }), out)
         }
         StackChange::Differs(position) => match reply.changes.pairs.get(*position) {
-            Some(pair) => put_pair_at(lines, &reply.changes.services, stack, pair, out),
+            Some(pair) => put_pair_at(lines, reply, stack, pair, out),
             None => Ok(()),
         },
     }

@@ -3,14 +3,14 @@
 ghost use Rattle.std.specs.Prelude.{Some, option_map};
 ghost use Rattle.std.specs.List.{flat_map};
 ghost use Rattle.pam_codes.specs.Out.{Writes};
-ghost use Rattle.pam_render.specs.text.Compare.{fault_text, head_text, only_count, place_text, side_text};
+ghost use Rattle.pam_render.specs.text.Compare.{fault_text, head_text, only_count, place_text, rule_place, side_text};
 ghost use Rattle.pam_render.specs.parts.ComparedView.{head_view};
 ghost use Rattle.pam_render.specs.text.inner.CompareParts.{part_text};
 ghost use Rattle.pam_report.specs.ReplyViews.{side_files};
 
 use super::asked::put_all_asked;
 use super::modules::{put_arguments, put_module, put_module_changes};
-use crate::parts::{Head, file_of};
+use crate::parts::{Head, file_of, file_of_rule, line_of_rule};
 use crate::sentences::put_name;
 use crate::text::check::put_counted;
 use pam_changes::{AskedModule, StackPair};
@@ -37,8 +37,16 @@ pub(super) enum Part<'x> {
     /// A name, in which no byte can end or change the line.
     Name(&'x [u8]),
     Head(Head<'x>),
-    /// A module of the old stack, by its number: its path, and which of those with this path it is, unless it is the first.
+    /// A module of a stack, by its number: its path, and which of those with this path it is, unless it is the first, with a text after
+    /// that.
     Module {
+        place: &'x [u8],
+        stack: &'x Stack,
+        number: usize,
+    },
+    /// ` FILE:LINE` of the rule of a module, by its number, if there is a file.
+    Place {
+        files: Option<&'x Files>,
         stack: &'x Stack,
         number: usize,
     },
@@ -101,6 +109,22 @@ fn put_place<W: Write>(file: Option<&[u8]>, line: usize, out: &mut Out<W>) -> Re
     }
 }
 
+/// Writes ` FILE:LINE` of the rule of a module, if there is a file.
+fn put_rule_place<W: Write>(
+    files: Option<&Files>,
+    stack: &Stack,
+    number: usize,
+    out: &mut Out<W>,
+) -> Result<(), Device>
+    ensures { Writes W.contents out.old out.new result (rule_place (side_files files.entry) stack.now number) }
+{
+    put_place(
+        file_of_rule(files, stack, number),
+        line_of_rule(stack, number),
+        out,
+    )
+}
+
 /// Writes `NUMBER NAME FILE:LINE`.
 #[tactic(auto, unfolding(crate::specs::text::Compare::fault_text))]
 fn put_fault<W: Write>(
@@ -138,7 +162,16 @@ fn put_part<W: Write>(part: &Part<'_>, out: &mut Out<W>) -> Result<(), Device>
         Part::Only { count, place } => put_only_count(*count, place, out),
         Part::Name(name) => put_name(name, out),
         Part::Head(head) => put_head(*head, out),
-        Part::Module { stack, number } => put_module(b"", stack, *number, out),
+        Part::Module {
+            place,
+            stack,
+            number,
+        } => put_module(place, stack, *number, out),
+        Part::Place {
+            files,
+            stack,
+            number,
+        } => put_rule_place(*files, stack, *number, out),
         Part::Arguments { stack, number } => put_arguments(stack, *number, out),
         Part::Asked { pair, asked } => put_all_asked(pair, asked, out),
         Part::Changes(pair) => put_module_changes(pair, out),

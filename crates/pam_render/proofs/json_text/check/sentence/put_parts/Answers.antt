@@ -8,14 +8,14 @@ use Rattle.pam_render.specs.sentences.Faults.{Naming}
 use Rattle.pam_render.specs.sentences.NamingView.{naming_view}
 use Rattle.pam_render.specs.sentences.Shown.{hidden_text}
 use Rattle.serde_json.specs.Written.{compact_text}
-use Rattle.pam_render.specs.json_text.Sentences.{mending_parts, naming_parts}
-use Rattle.pam_render.proofs.json_text.check.sentence.put_named.Goals as goal
+use Rattle.pam_render.specs.json_text.Sentences.{mending_parts, named_parts}
+use Rattle.pam_render.proofs.json_text.check.sentence.put_parts.Goals as goal
 
 -- the parts, by equal texts
 named-is : (naming : Naming) (m : MisspelledText) (of before word after hidden right near : List ℕ) → of ≡ m.of → before ≡ naming.before → word ≡ m.word
     → after ≡ naming.after → hidden ≡ hidden_text m.word → near ≡ right → m.nearest ≡ Some right
     → compact_text (joined (of ∷ before ∷ codes "\"" ∷ word ∷ codes "\"" ∷ after ∷ hidden ∷ codes "; did you mean \"" ∷ near ∷ codes "\"?" ∷ []))
-    ≡ compact_text (joined (naming_parts m naming))
+    ≡ compact_text (joined (named_parts m naming))
 named-is naming m of before word after hidden right near o b w a h r n =
     rw (o, b, w, a, h, r)
     (ap (λ (nearest : Option (List ℕ)). compact_text (joined (m.of ∷ naming.before ∷ codes "\"" ∷ m.word ∷ codes "\"" ∷ naming.after

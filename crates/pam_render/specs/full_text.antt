@@ -1,0 +1,5 @@
+pub mod Cells
+pub mod Check
+pub mod Excerpt
+pub mod Laws
+pub mod inner
