@@ -1,10 +1,13 @@
 mod AccessTables
 mod Added
 mod Candidates
+mod DeadLinks
 mod Entries
 mod Folders
 mod Fronts
 mod Links
 mod NamedTables
+mod PasswdMembers
 mod Rising
 mod Sizes
+mod UnreadFiles

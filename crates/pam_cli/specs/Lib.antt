@@ -1,7 +1,11 @@
 pub mod AccessTables
+pub mod DeadLinks
 pub mod Links
+pub mod Passwd
+pub mod PasswdLaws
 pub mod Reading
 pub mod Run
 pub mod Sources
 pub mod System
+pub mod UnreadFiles
 pub mod inner

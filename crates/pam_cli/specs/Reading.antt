@@ -1,11 +1,13 @@
 -- What is read for a task: the inputs that fit it, or the input that cannot be read.
-use Rattle.std.specs.Prelude.{◌≡◌, ◌⊎◌, ◌&&◌, ⊤, Bool, false, true, ℕ, List, [], ◌∷◌, MatchOption, Option, Some, None, Result, Ok, Err, Vec, codes, is_some, map}
+use Rattle.std.specs.Prelude.{◌≡◌, ◌⊎◌, ◌&&◌, ⊤, Bool, false, true, ℕ, List, [], ◌∷◌, MatchOption, Option, Some, None, Result, Ok, Err, Vec, codes}
+use Rattle.std.specs.Prelude.{is_some, map, option_map}
 use Rattle.std.specs.Borrow.{Bor}
 use Rattle.std.specs.Option.{option_copied}
 use Rattle.std.specs.Global.{Global}
 use Rattle.clap.specs.Words.{Text}
 use Rattle.pam_text.specs.Members.{Member}
-use Rattle.pam_report.specs.Inputs.{fits_task, named_files_given, policies_given, there_given}
+use Rattle.pam_report.specs.Inputs.{bytes_of_table, fits_task, named_files_given, path_of_table, policies_given, there_given}
+use Rattle.pam_report.specs.Passwd.{with_users}
 use Rattle.pam_report.specs.declared.inputs.CheckInputs.{CheckInputs}
 use Rattle.pam_report.specs.declared.inputs.SideInputs.{SideInputs}
 use Rattle.pam_report.specs.declared.inputs.InputError.{InputError}
@@ -22,17 +24,23 @@ use Rattle.pam_words.specs.declared.wanted.TableNames.{TableNames}
 use Rattle.pam_words.specs.declared.wanted.Task.{Task}
 use Rattle.pam_words.specs.declared.wanted.Task.TheVariants.{Check, Compare, Show, Decide, Access, Time, Paths, Outcomes, Graph, Policy, Needs}
 use Rattle.pam_words.specs.declared.wanted.CheckFiles.{CheckFiles}
+use Rattle.pam_cli.specs.DeadLinks.{AreDead}
 use Rattle.pam_cli.specs.Links.{AreLinks}
 use Rattle.pam_cli.specs.AccessTables.{AreAccess, AreContents}
+use Rattle.pam_cli.specs.Passwd.{IsGivenPasswd, IsPasswd}
 use Rattle.pam_cli.specs.Sources.{IsFrom, IsInSource, IsRead, IsUnread}
 use Rattle.pam_cli.specs.System.{PlaceText, Told, shown}
 use Rattle.pam_cli.specs.System as system
+use Rattle.pam_cli.specs.UnreadFiles.{AreUnreadIn, going_on}
 
 -- ---- what is read
 
--- a configuration is read from its source, for `check` with its paths and with which of its files only the second folder has
+-- a configuration is read from its source, for `check` with its paths, with which of its files only the second folder has, and with
+-- which of them cannot be read and have no byte here
 abbrev pub HasFiles : Told → List (Text × Text) → ConfSource → Inputs → Type 0
-HasFiles told candidates source (inputs.Host files paths given) = IsRead told candidates source files paths given.vendor_start
+HasFiles told candidates source (inputs.Host files paths given) =
+    IsRead (going_on told) candidates source files paths given.vendor_start
+    × AreUnreadIn told candidates source files given.vendor_start given.unread.items
 HasFiles told candidates source (inputs.Stack files) = IsFrom told candidates source files
 HasFiles told candidates source (inputs.Paths files given) = IsFrom told candidates source files
 HasFiles told candidates source given = ⊤
@@ -90,10 +98,20 @@ is_user (c ∷ cs) = true
 abbrev pub has_user : KnowledgeSource → Bool
 has_user named = is_user named.login.user.now
 
--- `paths`, `outcomes`, `graph` and `policy` look up a login if its user is given, and its moment if that is given too
-abbrev pub AreKnownTables : Told → ConfSource → KnowledgeSource → TableFiles → Type 0
-AreKnownTables told source named tables =
-    AreTables told (has_user named) (has_user named && is_some named.moment) source named.tables tables
+-- a group file, with the users of the passwd file as members of the groups of their numbers
+pub record IsGroupTable (told : Told) (reads : Bool) (source : ConfSource) (passwd : Option Text) (file table : Option TableFile) : Type 0 where
+  pub users : Option (Vec ℕ Global)
+  pub are_users : IsPasswd told reads source passwd users
+  pub path : path_of_table table ≡ path_of_table file
+  pub bytes : bytes_of_table table ≡ option_map (λ t. with_users t.bytes.items (option_map (λ b. b.items) users)) file
+
+-- `paths`, `outcomes`, `graph`, `needs` and `policy` look up a login if its user is given, and its moment if that is given too
+pub record AreKnownTables (told : Told) (source : ConfSource) (named : KnowledgeSource) (tables : TableFiles) : Type 0 where
+  pub read : TableFiles
+  pub are_read : AreTables told (has_user named) (has_user named && is_some named.moment) source named.tables read
+  pub access : tables.access ≡ read.access
+  pub time : tables.time ≡ read.time
+  pub groups : IsGroupTable told (has_user named) source (option_copied named.passwd) read.groups tables.groups
 
 abbrev pub HasKnownTables : Told → ConfSource → KnowledgeSource → Inputs → Type 0
 HasKnownTables told source named (inputs.Paths files given) =
@@ -138,10 +156,18 @@ HasKnowledge told candidates source named policies given =
     HasFiles told candidates source given × HasKnownTables told source named given × HasModules source named.modules.items (there_given given)
     × HasPolicies told policies given
 
--- the tables of `access` and its group file
-abbrev pub IsAccess : Told → List Text → Option Text → Inputs → Type 0
-IsAccess told names groups (inputs.Access tables group) = AreContents told names tables × IsFile told groups group
-IsAccess told names groups given = ⊤
+-- the group file of `access`, with the users of the passwd file as members of the groups of their numbers
+pub record IsGroupFile (told : Told) (groups passwd : Option Text) (given : Option (Vec ℕ Global)) : Type 0 where
+  pub file : Option (Vec ℕ Global)
+  pub users : Option (Vec ℕ Global)
+  pub is_file : IsFile told groups file
+  pub are_users : IsGivenPasswd told passwd users
+  pub bytes : option_map (λ b. b.items) given ≡ option_map (λ b. with_users b.items (option_map (λ u. u.items) users)) file
+
+-- its tables and its group file
+abbrev pub IsAccess : Told → List Text → Option Text → Option Text → Inputs → Type 0
+IsAccess told names groups passwd (inputs.Access tables group) = AreContents told names tables × IsGroupFile told groups passwd group
+IsAccess told names groups passwd given = ⊤
 
 -- the table of `time`
 abbrev pub IsTime : Told → Text → Inputs → Type 0
@@ -154,16 +180,21 @@ HasLinks told candidates source (inputs.Host files paths given) =
     AreLinks told candidates source files.entries given.vendor_start given.outside.items
 HasLinks told candidates source given = ⊤
 
+-- the names of the entries of its folders that lead nowhere
+abbrev pub HasDead : Told → ConfSource → Inputs → Type 0
+HasDead told source (inputs.Host files paths given) = AreDead told source files.entries given.dead
+HasDead told source given = ⊤
+
 abbrev pub HasSource : Told → List (Text × Text) → Task → Inputs → Type 0
 HasSource told candidates (Check source services fail_on named) given =
     HasFiles told candidates source given × HasTables told source named given × HasOthers told named given
     × HasModules source named.modules.items (there_given given) × HasNamedFiles source (named_files_given given)
-    × HasLinks told candidates source given
+    × HasLinks told candidates source given × HasDead told source given
 HasSource told candidates (Compare old new service kind named) given = HasSides told old new named given
 HasSource told candidates (Show source kind release) given = HasFiles told candidates source given
 HasSource told candidates (Decide source kind answered) given = HasFiles told candidates source given
-HasSource told candidates (Access tables groups login arguments) given =
-    IsAccess told (map (λ s. s.now) tables.items) (option_copied groups) given
+HasSource told candidates (Access tables groups passwd login arguments) given =
+    IsAccess told (map (λ s. s.now) tables.items) (option_copied groups) (option_copied passwd) given
 HasSource told candidates (Time table login moment) given = IsTime told table.now given
 HasSource told candidates (Paths source kind limit part filter knowledge) given = HasKnowledge told candidates source knowledge [] given
 HasSource told candidates (Outcomes source kind knowledge) given = HasKnowledge told candidates source knowledge [] given
@@ -188,11 +219,11 @@ abbrev pub IsOfTables : TableNames → List ℕ → Type 0
 IsOfTables named name =
     IsNamed (option_copied named.groups) name ⊎ Member name (map (λ s. s.now) named.access.items) ⊎ IsNamed (option_copied named.time) name
 
--- a name of the source, one of the folders of modules or of the tables, or the facts file or the returns file
+-- a name of the source, one of the folders of modules or of the tables, or the passwd file, the facts file or the returns file
 abbrev pub IsOfKnowledge : ConfSource → KnowledgeSource → List ℕ → Type 0
 IsOfKnowledge source named name =
     IsInSource source name ⊎ Member name (map (λ folder. folder.now) named.modules.items) ⊎ IsOfTables named.tables name
-    ⊎ IsNamed (option_copied (facts_named named.answers)) name ⊎ IsNamed (option_copied named.returns) name
+    ⊎ IsNamed (option_copied named.passwd) name ⊎ IsNamed (option_copied (facts_named named.answers)) name ⊎ IsNamed (option_copied named.returns) name
 
 -- one of these, or one of the policies
 abbrev pub IsOfPolicies : ConfSource → KnowledgeSource → List Text → List ℕ → Type 0
@@ -216,7 +247,8 @@ IsOfTask (Check source services fail_on named) name = IsInSource source name ⊎
 IsOfTask (Compare old new service kind named) name = IsOfCompare old new named name
 IsOfTask (Show source kind release) name = IsInSource source name
 IsOfTask (Decide source kind answered) name = IsInSource source name
-IsOfTask (Access tables groups login arguments) name = IsNamed (option_copied groups) name ⊎ Member name (map (λ s. s.now) tables.items)
+IsOfTask (Access tables groups passwd login arguments) name =
+    IsNamed (option_copied groups) name ⊎ IsNamed (option_copied passwd) name ⊎ Member name (map (λ s. s.now) tables.items)
 IsOfTask (Time table login moment) name = name ≡ table.now
 IsOfTask (Paths source kind limit part filter knowledge) name = IsOfKnowledge source knowledge name
 IsOfTask (Outcomes source kind knowledge) name = IsOfKnowledge source knowledge name

@@ -1,10 +1,12 @@
 -- A run of the program: from the words to the status, and what is left on standard output.
-use Rattle.std.specs.Prelude.{◌≡◌, ◌⊎◌, true, ℕ, List, Option, Result, Ok, Err, MatchOption, map}
+use Rattle.std.specs.Prelude.{◌≡◌, ◌⊎◌, Bool, true, ℕ, List, Option, Result, Ok, Err, MatchOption, map}
 use Rattle.clap.specs.Words.{fault_of, subcommand_of, takes}
 use Rattle.pam_codes.specs.Out.{Out}
 use Rattle.pam_render.specs.text.Answer.{Answers}
 use Rattle.pam_report.specs.Fault.{status_of_fault, status_of_input, status_of_usage}
+use Rattle.pam_report.specs.Inputs.{unread_given}
 use Rattle.pam_report.specs.Reply.{status_number}
+use Rattle.pam_report.specs.Left.{has_unread}
 use Rattle.pam_report.specs.declared.fault.Fault.{Fault}
 use Rattle.pam_report.specs.declared.fault.Fault.TheVariants as faults
 use Rattle.pam_report.specs.declared.inputs.InputError.{InputError}
@@ -30,6 +32,11 @@ abbrev pub status_of_answer : Result Status Fault → ℕ
 status_of_answer (Ok status) = status_number status
 status_of_answer (Err fault) = status_of_fault fault
 
+-- though a file of a check cannot be read, the services that take no rules from it are checked
+abbrev pub status_with : Bool → Result Status Fault → ℕ
+status_with true (Ok status) = status_of_fault faults.Unread
+status_with unread answered = status_of_answer answered
+
 module _ {W : Type 0} (contents : W → Option (List ℕ)) (old new : Out W) (status : ℕ) where
   -- only help is written to standard output, and its write may fail
   abbrev pub EndsRefused : Usage → Type 0
@@ -41,7 +48,7 @@ module _ {W : Type 0} (contents : W → Option (List ℕ)) (old new : Out W) (st
   EndsAnswered request inputs =
       (answered : Result Status Fault)
       × Answers contents old new answered request.output request.service.now (map candidate_view request.candidates.items) request.task inputs
-      × (status ≡ status_of_answer answered)
+      × (status ≡ status_with (has_unread (unread_given inputs)) answered)
 
   -- the answer, or why the inputs cannot be read
   abbrev pub EndsRead : Request → Result Inputs InputError → Type 0

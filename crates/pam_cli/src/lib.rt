@@ -2,6 +2,7 @@
 #![tactic(auto)]
 
 mod host;
+pub mod laws;
 mod program;
 mod reading;
 mod system;

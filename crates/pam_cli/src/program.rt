@@ -1,9 +1,11 @@
 //! A run of the program: reads the command line, answers on standard output, and reports faults on standard error.
 
-ghost use Rattle.std.specs.Prelude.{◌≡◌, ◌≤◌, ◌⊎◌, map, string_bytes};
+ghost use Rattle.std.specs.Prelude.{◌≡◌, ◌≤◌, ◌⊎◌, Ok, map, string_bytes};
 ghost use Rattle.pam_report.specs.Fault.{IsNumbered, status_of_fault, status_of_input, status_of_usage};
 ghost use Rattle.pam_report.specs.declared.fault.Fault.TheVariants as faults;
-ghost use Rattle.pam_cli.specs.Run.{EndsAnswered, EndsRefused, EndsRequest, Runs};
+ghost use Rattle.pam_cli.specs.Run.{EndsAnswered, EndsRefused, EndsRequest, Runs, status_with};
+ghost use Rattle.pam_report.specs.Inputs.{unread_given};
+ghost use Rattle.pam_report.specs.Left.{has_unread};
 
 use crate::reading::inputs_of;
 use crate::system::System;
@@ -12,8 +14,8 @@ use pam_conf::{Files, Form};
 use pam_render::sentences::{put_name, refusal_sentence};
 use pam_render::text::answer;
 use pam_report::{
-    Fault, InputError, Inputs, fault_status, fault_text, input_sentence, input_status, input_text,
-    mistaken_text, refusal_text, usage_status, usage_text,
+    Fault, InputError, Inputs, Status, fault_status, fault_text, input_sentence, input_status,
+    input_text, mistaken_text, refusal_text, usage_status, usage_text,
 };
 use pam_words::{Request, Task, Usage, find_mistake, request};
 use std::alloc::{AllocError, Global};
@@ -152,11 +154,34 @@ fn report<W: Write, V: Write>(
     ensures status { result ≤ 6 }
 {
     match answer(alloc, request, inputs, out) {
-        Ok(status) => status.number(),
+        Ok(status) => end(alloc, status, inputs, err),
+        Err(Fault::Unread) => {
+            say_unread(alloc, inputs, err);
+            fault_status(&Fault::Unread)
+        }
         Err(fault) => {
             say_fault(alloc, &fault, request, inputs, err);
             fault_status(&fault)
         }
+    }
+}
+
+/// Returns the exit status of an answer. Where a file of a check cannot be read, that is reported on standard error.
+fn end<V: Write>(alloc: Global, status: Status, inputs: &Inputs, err: &mut Out<V>) -> u8
+    ensures value { result ≡ status_with (has_unread (unread_given inputs.now)) (Ok status) }
+    ensures bound { result ≤ 6 }
+{
+    if !inputs.has_unread() {
+        return status.number();
+    }
+    say_unread(alloc, inputs, err);
+    fault_status(&Fault::Unread)
+}
+
+/// Reports each file of a check that cannot be read on standard error.
+fn say_unread<V: Write>(alloc: Global, inputs: &Inputs, err: &mut Out<V>) {
+    for error in inputs.unread_errors() {
+        say_with(input_text(alloc, error), input_sentence(error), err);
     }
 }
 

@@ -2,36 +2,44 @@
 
 ghost use Rattle.std.specs.Prelude.{◌≡◌, ◌⊎◌, ◌&&◌, IfErr, IfOk, MatchResult, is_some, map};
 ghost use Rattle.std.specs.Option.{option_copied};
-ghost use Rattle.pam_cli.specs.Reading.{IsNamed, has_user, IsReading, IsSide};
+ghost use Rattle.pam_cli.specs.Reading.{AreKnownTables, IsNamed, IsOfKnowledge, has_user, IsReading, IsSide};
 ghost use Rattle.pam_cli.specs.inner.Reading.{IsAccessReading, IsCheckReading, IsGivenReading, IsKnowledgeReading, IsKnownReading, IsPolicyReading};
 ghost use Rattle.pam_cli.specs.inner.Reading.{IsCompareReading, IsOfSide, IsRightFile};
 ghost use Rattle.pam_cli.specs.Sources.{IsUnread};
 ghost use Rattle.pam_words.specs.Wanted.{candidate_view, facts_named};
 
 mod access;
+mod dead_links;
 mod files;
+mod going_on;
 mod links;
 mod module_paths;
 mod modules;
 mod named_files;
+mod passwd;
 mod sources;
 mod tables;
+mod unread;
 
 use crate::system::System;
 use access::named_access;
+use dead_links::dead_links;
 use files::named_file;
+use going_on::GoingOn;
 use links::links_outside;
 use modules::modules_there;
 use named_files::files_there;
 use pam_conf::Files;
-use pam_report::{CheckInputs, InputError, Inputs, KnowledgeInputs, SideInputs};
+use pam_report::{CheckInputs, InputError, Inputs, KnowledgeInputs, SideInputs, TableFiles};
 use pam_text::Texts;
 use pam_words::{
     Answers, Candidate, CheckFiles, CompareFiles, ConfSource, KnowledgeSource, Request, Task,
 };
+use passwd::{file_with_users, optional_passwd, passwd_of, table_with_users};
 use sources::{Configuration, source_files};
 use std::alloc::Global;
 use tables::{LookedUp, table_files};
+use unread::unread_files;
 
 /// A check looks up all logins, at all moments.
 const ALL_TABLES: LookedUp = LookedUp {
@@ -69,8 +77,8 @@ fn optional_files<S: System>(
     Ok((first, second))
 }
 
-/// Looks for links, for the modules of a configuration and for the files that its arguments name, and reads the tables of its system or those that are named, and the facts
-/// file and the accept file that are named.
+/// Looks for links, for the modules of a configuration and for the files that its arguments name, and reads the tables of its system or
+/// those that are named, and the facts file and the accept file that are named.
 fn given_inputs<S: System>(
     system: &S,
     alloc: Global,
@@ -79,10 +87,12 @@ fn given_inputs<S: System>(
     named: &CheckFiles<'_>,
     found: &Configuration,
 ) -> Result<CheckInputs, InputError>
-    ensures { IsGivenReading (S.told system.now) (map candidate_view candidates.now) found.now.files.entries found.now.vendor_start
+    ensures { IsGivenReading (S.told system.now) (map candidate_view candidates.now) found.now.files found.now.vendor_start
         source.entry named.now result }
 {
+    let unread = unread_files(system, alloc, source, candidates, found)?;
     let outside = links_outside(system, alloc, source, candidates, found)?;
+    let dead = dead_links(system, alloc, source, &found.files)?;
     let there = modules_there(system, alloc, source, &named.modules, &found.files)?;
     let named_files = files_there(system, alloc, source, &found.files)?;
     let tables = table_files(system, alloc, source, &named.tables, ALL_TABLES)?;
@@ -90,6 +100,9 @@ fn given_inputs<S: System>(
     Ok(CheckInputs {
         vendor_start: found.vendor_start,
         outside,
+        unread: unread.at,
+        unread_errors: unread.errors,
+        dead,
         there,
         named_files,
         tables,
@@ -98,7 +111,7 @@ fn given_inputs<S: System>(
     })
 }
 
-/// Reads a configuration with its paths, and what else a check is given.
+/// Reads a configuration with its paths, and what else a check is given. A file that cannot be read is left without a byte.
 fn check_inputs<S: System>(
     system: &S,
     alloc: Global,
@@ -108,7 +121,7 @@ fn check_inputs<S: System>(
 ) -> Result<Inputs, InputError>
     ensures { IsCheckReading (S.told system.now) (map candidate_view candidates.now) source.entry named.now result }
 {
-    let found = source_files(system, alloc, source, candidates)?;
+    let found = source_files(&GoingOn { system }, alloc, source, candidates)?;
     let given = given_inputs(system, alloc, source, candidates, named, &found)?;
     Ok(Inputs::Host {
         files: found.files,
@@ -152,16 +165,19 @@ fn compare_inputs<S: System>(
     })
 }
 
-/// Reads the group file, if one is named, then the access tables.
+/// Reads the group file and the passwd file, as far as they are named, then the access tables.
 fn access_inputs<S: System>(
     system: &S,
     alloc: Global,
     names: &[&str],
     groups: Option<&str>,
+    passwd: Option<&str>,
 ) -> Result<Inputs, InputError>
-    ensures { IsAccessReading (S.told system.now) names.now groups.entry result }
+    ensures { IsAccessReading (S.told system.now) names.now groups.entry passwd.entry result }
 {
     let groups = optional_file(system, alloc, groups)?;
+    let passwd = optional_passwd(system, alloc, passwd)?;
+    let groups = file_with_users(alloc, groups, &passwd)?;
     let tables = named_access(system, alloc, names)?.contents;
     Ok(Inputs::Access { tables, groups })
 }
@@ -177,6 +193,31 @@ fn looked_up(named: &KnowledgeSource<'_>) -> LookedUp
         login: has_user,
         moment: has_user && named.moment.is_some(),
     }
+}
+
+/// Reads the tables of a system or those that are named, and then the passwd file, whose users are members of the groups of their numbers.
+fn known_tables<S: System>(
+    system: &S,
+    alloc: Global,
+    source: ConfSource<'_>,
+    named: &KnowledgeSource<'_>,
+) -> Result<TableFiles, InputError>
+    ensures ok { IfOk result (AreKnownTables (S.told system.now) source.entry named.now) }
+    ensures error { IfErr result (IsUnread (IsOfKnowledge source.entry named.now)) }
+{
+    let looked_up = looked_up(named);
+    let TableFiles {
+        groups,
+        access,
+        time,
+    } = table_files(system, alloc, source, &named.tables, looked_up)?;
+    let passwd = passwd_of(system, alloc, source, named.passwd, looked_up.login)?;
+    let groups = table_with_users(alloc, groups, &passwd)?;
+    Ok(TableFiles {
+        groups,
+        access,
+        time,
+    })
 }
 
 /// Reads the facts file, if it is asked what is possible and the file is named, and then the returns file, if that is named.
@@ -208,7 +249,7 @@ fn known_inputs<S: System>(
     ensures { IsKnownReading (S.told system.now) source.entry named.now result }
 {
     let there = modules_there(system, alloc, source, &named.modules, files)?;
-    let tables = table_files(system, alloc, source, &named.tables, looked_up(named))?;
+    let tables = known_tables(system, alloc, source, named)?;
     let others = possible_files(system, alloc, named.answers, named.returns)?;
     Ok(KnowledgeInputs {
         there,
@@ -254,8 +295,8 @@ fn policy_inputs<S: System>(
     })
 }
 
-/// Reads the files of a request: the configuration, the folders of modules and what arguments name, the group file, the access tables, the time table, and then
-/// the other files.
+/// Reads the files of a request: the configuration, the folders of modules and what arguments name, the group file, the access tables,
+/// the time table, the passwd file, and then the other files.
 pub(crate) fn inputs_of<S: System>(
     system: &S,
     alloc: Global,
@@ -277,7 +318,12 @@ pub(crate) fn inputs_of<S: System>(
         Task::Show { source, .. } | Task::Decide { source, .. } => Ok(Inputs::Stack(
             source_files(system, alloc, *source, candidates)?.files,
         )),
-        Task::Access { tables, groups, .. } => access_inputs(system, alloc, tables, *groups),
+        Task::Access {
+            tables,
+            groups,
+            passwd,
+            ..
+        } => access_inputs(system, alloc, tables, *groups, *passwd),
         Task::Time { table, .. } => Ok(Inputs::Time {
             table: named_file(system, alloc, table)?,
         }),

@@ -5,7 +5,7 @@ use Rattle.std.specs.Bool.{beq}
 use Rattle.std.specs.Global.{Global}
 use Rattle.std.specs.Option.{option_copied}
 use Rattle.clap.specs.Words.{Text}
-use Rattle.pam_conf.specs.Files.{Named}
+use Rattle.pam_conf.specs.Files.{Folder}
 use Rattle.pam_conf.specs.declared.rule.Kind.{Kind}
 use Rattle.pam_text.specs.Members.{Member}
 use Rattle.pam_report.specs.Inputs.{fits_check, fits_knowledge, has_named_tables}
@@ -23,9 +23,11 @@ use Rattle.pam_words.specs.declared.wanted.Login.{Login}
 use Rattle.pam_words.specs.declared.wanted.Task.TheVariants.{Check, Compare, Access, Policy}
 use Rattle.pam_words.specs.declared.wanted.CheckFiles.{CheckFiles}
 use Rattle.pam_cli.specs.AccessTables.{AreContents}
+use Rattle.pam_cli.specs.DeadLinks.{AreDead}
 use Rattle.pam_cli.specs.Links.{AreLinks}
 use Rattle.pam_cli.specs.Sources.{IsInSource, IsUnread}
 use Rattle.pam_cli.specs.System.{Told}
+use Rattle.pam_cli.specs.UnreadFiles.{AreUnreadIn}
 use Rattle.pam_cli.specs.Reading.{AreOthers, AreTables, AreKnownTables, IsFile, HasKnowledge, HasModules, HasNamedFiles, IsOfKnowledge, IsOfCheck, IsReading}
 
 -- a name of the source of a side, or one of the folders of modules
@@ -61,11 +63,12 @@ IsCompareReading told old new named result =
     (candidates : List (Text × Text)) (service : Option (Bor Text)) (kind : Option Kind) → IsReading told candidates (Compare old new service kind named) result
 
 -- what a check is given besides the configuration, whose files from this position on only the second folder has
-abbrev pub IsGivenReading : Told → List (Text × Text) → List Named → ℕ → ConfSource → CheckFiles → Result CheckInputs InputError → Type 0
+abbrev pub IsGivenReading : Told → List (Text × Text) → Folder → ℕ → ConfSource → CheckFiles → Result CheckInputs InputError → Type 0
 IsGivenReading told candidates files vendor_start source named (Ok given) =
     (given.vendor_start ≡ vendor_start) × (fits_check named given ≡ true) × AreTables told true true source named.tables given.tables
     × AreOthers told named given × HasModules source named.modules.items given.there × HasNamedFiles source given.named_files
-    × AreLinks told candidates source files vendor_start given.outside.items
+    × AreLinks told candidates source files.entries vendor_start given.outside.items × AreDead told source files.entries given.dead
+    × AreUnreadIn told candidates source files vendor_start given.unread.items
 IsGivenReading told candidates files vendor_start source named (Err error) = IsUnread (λ name. IsInSource source name ⊎ IsOfCheck named name) error
 
 -- what is known besides the configuration, without policies
@@ -79,10 +82,10 @@ IsKnownReading told source named (Ok given) =
 IsKnownReading told source named (Err error) = IsUnread (IsOfKnowledge source named) error
 
 -- what is read for each `access` of these files
-abbrev pub IsAccessReading : Told → List (Bor Text) → Option (Bor Text) → Result Inputs InputError → Type 0
-IsAccessReading told tables groups result =
+abbrev pub IsAccessReading : Told → List (Bor Text) → Option (Bor Text) → Option (Bor Text) → Result Inputs InputError → Type 0
+IsAccessReading told tables groups passwd result =
     (candidates : List (Text × Text)) (named : Vec (Bor Text) Global) (login : Login) (arguments : List Text)
-    → tables ≡ named.items → IsReading told candidates (Access named groups login arguments) result
+    → tables ≡ named.items → IsReading told candidates (Access named groups passwd login arguments) result
 
 -- what is read for each task about this source with what is known of answers
 abbrev pub IsKnowledgeReading : Told → List (Text × Text) → ConfSource → KnowledgeSource → Result Inputs InputError → Type 0

@@ -26,6 +26,16 @@ fn why(error: &io::Error) -> ReadFault {
     }
 }
 
+/// Returns that the input of this name is not read.
+pub(super) fn unread_as(alloc: Global, name: &str, why: ReadFault) -> InputError
+    ensures { IsUnread (λ n. n ≡ name.now) result }
+{
+    match String::from_str(alloc, name) {
+        Ok(name) => InputError::Read(name, why),
+        Err(_) => InputError::Memory,
+    }
+}
+
 /// Converts a failed read of this name, which may be a failed allocation too.
 pub(super) fn unread(alloc: Global, name: &str, error: &io::Error) -> InputError
     ensures { IsUnread (λ n. n ≡ name.now) result }
@@ -33,10 +43,7 @@ pub(super) fn unread(alloc: Global, name: &str, error: &io::Error) -> InputError
     if error.kind() == ErrorKind::OutOfMemory {
         return InputError::Memory;
     }
-    match String::from_str(alloc, name) {
-        Ok(name) => InputError::Read(name, why(error)),
-        Err(_) => InputError::Memory,
-    }
+    unread_as(alloc, name, why(error))
 }
 
 /// Converts a failed read of a place.

@@ -10,7 +10,7 @@ use pam_words::{Candidate, ConfSource};
 use std::alloc::{AllocError, Global};
 
 /// Whether a candidate has this name.
-fn is_candidate(candidates: &[Candidate<'_>], name: &[u8]) -> bool
+pub(super) fn is_candidate(candidates: &[Candidate<'_>], name: &[u8]) -> bool
     ensures { result ≡ is_candidate name.now (map candidate_view candidates.now) }
 {
     for candidate in candidates {

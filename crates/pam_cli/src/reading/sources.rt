@@ -18,13 +18,13 @@ use std::io;
 use std::io::ErrorKind;
 
 /// The folder of the files of a system.
-const FOLDER: &str = "etc/pam.d";
+pub(super) const FOLDER: &str = "etc/pam.d";
 
 /// The second folder of the files of a system.
-const VENDOR: &str = "usr/lib/pam.d";
+pub(super) const VENDOR: &str = "usr/lib/pam.d";
 
 /// The one file of a system without these folders.
-const FILE: &str = "etc/pam.conf";
+pub(super) const FILE: &str = "etc/pam.conf";
 
 /// The files of a source, and the paths under which they were read: first the path of the whole configuration, then each file's.
 #[derive(Drop)]

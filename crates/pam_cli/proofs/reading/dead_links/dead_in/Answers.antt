@@ -1,0 +1,10 @@
+use Rattle.std.proofs.Common.{List, subst}
+use Rattle.clap.specs.Words.{Text}
+use Rattle.pam_cli.specs.DeadLinks.{AddsDead}
+use Rattle.pam_cli.specs.System.{place_view}
+use Rattle.pam_cli.proofs.reading.dead_links.dead_in.Goals as goal
+
+pub returns : goal.returns
+returns g c =
+    subst (λ (l : List Text). AddsDead (g.S.System.told c.args.system.now) (place_view c.args.folder) c.args.files.now.entries l c.put_folder.new.dead)
+    c.new-dead.ensures c.in_ok-put_folder.ensures
