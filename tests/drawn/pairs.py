@@ -5,7 +5,8 @@ from hostile import beside
 
 LINES = [b"required", b"requisite", b"sufficient", b"optional", b"[success=1 default=ignore]", b"[success=2 default=ignore]",
          b"[success=done default=die]", b"[success=ok new_authtok_reqd=ok ignore=ignore default=bad]", b"[default=reset]"]
-MODULES = [b"a.so", b"b.so", b"c.so", b"d.so x", b"d.so y", b"pam_deny.so", b"pam_permit.so"]
+MODULES = [b"a.so", b"b.so", b"c.so", b"d.so x", b"d.so y", b"pam_deny.so", b"pam_permit.so", b"pam_faillock.so authfail", b"pam_nologin.so",
+           b"pam_wheel.so"]
 CODES = [b"success", b"auth_err", b"perm_denied", b"user_unknown", b"ignore", b"new_authtok_reqd"]
 JUMPS = {b"=1": b"=2", b"=2": b"=1", b"=done": b"=ok", b"=die": b"=bad"}
 

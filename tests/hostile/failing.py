@@ -16,7 +16,7 @@ TREE = {"d": {"login": b"auht required a.so\r\n@include common\n", "common": COM
 STACK = ["login", "auth", "--dir", "s"]
 ASKED = [["check", "--dir", "d"], ["outcomes", *STACK], ["graph", *STACK], ["graph", *STACK, "--format", "mermaid"],
          ["compare", "s", "n"], ["explain", "e15"], ["explain", "L2"], ["show", *STACK], ["decide", *STACK, "success", "ignore"],
-         ["check", "--dir", "d", "--json"], ["check", "--dir", "d", "--format", "sarif"], ["policy", "p", "--dir", "s"],
+         ["check", "--dir", "d", "--json"], ["check", "--dir", "d", "--format", "sarif"], ["check", "--dir", "d", "--format", "full"], ["policy", "p", "--dir", "s"],
          ["policy", "p", "--dir", "s", "--json"], ["needs", *STACK], ["needs", *STACK, "--json"]]
 # Answers of many bytes, of which not every one is tried.
 LONG = [["graph", *STACK, "--format", "svg"], ["explain"], ["facts"], ["paths", *STACK], ["paths", *STACK, "--json"], ["help", "check"]]

@@ -11,7 +11,7 @@ from hostile.roots import make
 from hostile.running import Answer, Difference
 from hostile.streams import expect
 from model import plain
-from model.sources import Outside
+from model.sources import DEAD, Outside
 
 WORD = b"sEcReT"
 ACCOUNT = b"account required pam_unix.so\n"
@@ -46,7 +46,10 @@ def cases():
                    "here/inside", "../out/back", "../out/../d/./inside"):
         yield Case({"x": target}, {"x": INSIDE})
     yield Case({"x": "sub/file"}, {"x": Outside(SHADOW)})
-    for target in ("gone", "../out/gone", "../out", "x", "inside/x", "/dev/zero"):
+    for target in ("gone", "../out/gone", "x", "inside/x"):
+        yield Case({"x": target}, {"x": DEAD})
+    yield Case({"x": "gone", "other": "x"}, {"x": DEAD, "other": DEAD})
+    for target in ("../out", "/dev/zero"):
         yield Case({"x": target}, {})
     yield Case({"x": "../out/open", "login": "x"}, {"x": Outside(OPEN), "login": Outside(OPEN)})
 
@@ -76,16 +79,16 @@ def tree_of(case):
 
 
 def over_cases(program):
-    """Each request over each folder, by several of its names, as text and as JSON."""
+    """Each request over each folder, by several of its names, as text, as JSON and with lines of files."""
     runs = 0
     for case in cases():
         tree = tree_of(case)
         files = {name: data for name, data in tree["d"].items() if name not in case.links and name != "sub"}
         make("d", {**files, "sub/file": SHADOW}, {"here": ".", **case.links})
         for asked in requests():
-            if "--with" in asked and "x" not in case.seen:
+            if "--with" in asked and not isinstance(case.seen.get("x"), bytes):
                 continue
-            for words in (asked, [*asked, "--json"]):
+            for words in (asked, [*asked, "--json"], [*asked, "--format", "full"]):
                 got = program.run(words)
                 expect(words, Answer(*plain.answer(words, tree)), got, tree)
                 if "--with" not in words:

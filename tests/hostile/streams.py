@@ -8,9 +8,10 @@ import socket
 import subprocess
 import threading
 
-from hostile.running import Answer, Difference, agrees, difference
+from hostile.running import Answer, Difference, agrees, difference, write
 from model import plain
-from model.sources import LOOP
+from model.sources import LOOP, SHUT
+from model.stacks import KINDS
 from model.faults import MOST_BYTES
 
 STACK = b"auth [success=1 auth_err=die default=ignore] a.so\n" * 12
@@ -207,6 +208,35 @@ class OtherUser:
         return self.program.run_in_shell('exec %s "$@"' % self.before, words)
 
 
+def checks_of_some(user):
+    """A check goes on past a file that may not be read: services that take no rules from it are checked. It is a service, a file that
+    others include, or `other`."""
+    rules = b"".join(b"%s required pam_unix.so nulok\n" % kind for kind in KINDS)
+    folder = {"su": rules, "sudo": b"auth include login\n" + rules, "cron": b"@include common\n", "ftp": b"auth required pam_unix.so\n",
+              "common": rules, "other": b"auth include common\n" + rules, "Login": rules, "login": STACK, "x.bak": b""}
+    files = {"facts": b"pam_gone checks\n", "accept": b"S11 x.bak\nS15 su:1\n"}
+    runs = 0
+    for names in (["login"], ["common"], ["other"], ["login", "other", "su"], list(folder)):
+        os.mkdir("some")
+        for name, data in folder.items():
+            write("some/" + name, data)
+            os.chmod("some/" + name, 0 if name in names else 0o644)
+        for name, data in files.items():
+            write(name, data)
+        tree = {**files, "some": {**folder, **dict.fromkeys(names, SHUT)}}
+        for words in ([], ["su"], ["login", "cron"], ["--json"], ["--format", "sarif"], ["--facts", "facts", "--accept", "accept"], ["gone"],
+                      ["--fail-on", "note"], ["--modules", "some"]):
+            check = ["check", *words, "--dir", "some"]
+            expect(check, Answer(*plain.answer(check, tree)), user.run(check), tree)
+            runs += 1
+        for name in names:
+            os.chmod("some/" + name, 0o644)
+        shutil.rmtree("some")
+    for name in files:
+        os.remove(name)
+    return runs
+
+
 def unreadable(program):
     """A regular file, a link through a folder, and a folder that may not be read."""
     user = OtherUser(program)
@@ -219,6 +249,7 @@ def unreadable(program):
     os.chmod("shut/login", 0)
     words = ["show", "other", "auth", "--dir", "shut"]
     expect(words, Answer(b"", b"pamcheck: V1 Read login\n", 5), user.run(words))
+    checks = checks_of_some(user)
     os.makedirs("closed/inner")
     os.chmod("closed", 0)
     os.remove("shut/login")
@@ -229,7 +260,7 @@ def unreadable(program):
     for name in ("shut", "closed"):
         os.chmod(name, 0o700)
         shutil.rmtree(name)
-    return 3
+    return 3 + checks
 
 
 def sources(program):

@@ -9,7 +9,7 @@ STEP = re.compile(rb"(?P<comment>#[^\n]*)|(?P<joint>\\(?:#[^\n]*)?\n)|(?P<end>\n
 WORD = re.compile(rb"\[.*?(?<!\\)\]|[^ \t\r\[][^ \t\r]*", re.DOTALL)
 TOKEN = re.compile(rb"=|[^ \t\r=]+")
 TARGETS = ["E10", "E11", "E12", "E15", "E18", "L10"]
-PATHS = ["S5", "S13", "S25"]
+PATHS = ["S3", "S5", "S13", "S14", "S25", "S26"]
 
 
 def text_from(data, number):

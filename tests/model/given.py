@@ -112,6 +112,24 @@ def tables(options, tree, of_root=("group", "access", "time")):
     return given
 
 
+def passwd(options, tree, of_root=False):
+    """The bytes of the passwd file that is named, or else of that of the root, if it is to be read and is there. `None` if there is none."""
+    path = options.get(b"--passwd")
+    if path is None and of_root and options.get(b"--root") is not None:
+        own = joined(options[b"--root"], b"etc/passwd")
+        path = own if found(tree, own) is not None else None
+    return None if path is None else judged_passwd(path, read(tree, path))
+
+
+def judged_passwd(path, data):
+    """The bytes of a passwd file, unless they are too many or have a NUL byte."""
+    if len(data) > faults.MOST_BYTES:
+        raise faults.Fault("V1", path, told=b"it is longer than 1 MiB; name a shorter one")
+    if b"\0" in data:
+        raise faults.Fault("V1", path, told=b"it has a NUL byte; remove it")
+    return data
+
+
 def named_access(given):
     """The name and the bytes of each access table."""
     return [(table.encode(), data) for table, (_, data) in given.items() if table.startswith("access")]

@@ -2,7 +2,7 @@
 import json
 import re
 
-from model import host, host_tables, stacks
+from model import guards, host, host_tables, stacks
 
 MOST_COUNTED = 2 ** 128
 
@@ -157,6 +157,13 @@ def same(words):
     return lists
 
 
+def guard(head, change, words):
+    """A module that guards a login."""
+    path, does, place, file, at = re.fullmatch(r"(.*), which (.*) \((old|new) (.*):(\d+)\)", words).groups()
+    name = {words.decode(): name for name, words in guards.WORDS.items()}[does]
+    return line("guard", **head, change=change, **module(path, place), guard=name, file=file, line=int(at))
+
+
 def counted(words):
     """The numbers of the last line."""
     names = ["stacks", "equal", "same_decisions", "changed", "refused", "not_known"]
@@ -190,6 +197,8 @@ def of_stack(head, rest):
         return line("arguments", **head, **module(path), old=old.split(), new=new.split())
     if what == "same":
         return line("same_decisions", **head, **same(more.partition(": ")[2]))
+    if what in ("removed:", "added:"):
+        return guard(head, what[:-1], more)
     if what == "not":
         return line("not_known", **head, situations=int(re.search(r"\d+", more)[0]))
     old, new, steps = re.fullmatch("(\\S+) becomes (\\S+) where (.*)", more).groups()

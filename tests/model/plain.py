@@ -7,7 +7,7 @@ words that it does not take is its own, so standard error is `None` then. Help a
 import re
 from itertools import islice
 
-from model import arguments, compare, graph, json_lines, needs, policies, policy_text, readings, said, sarif, services, sources, stacks, tables
+from model import arguments, compare, full, graph, json_lines, needs, policies, policy_text, readings, said, sarif, services, sources, stacks, tables
 from model import zones
 from model import given as plain_given
 from model import host as plain_host
@@ -16,7 +16,7 @@ from model.faults import Fault
 from model.sources import found, listed, read
 
 ANSWERS = b" --answers --facts"
-KNOWING = b" --modules --access --time --group --returns --set --user --rhost --tty --at --at-unix --zone"
+KNOWING = b" --modules --access --time --group --passwd --returns --set --user --rhost --tty --at --at-unix --zone"
 SOURCES = b"--dir --vendor-dir --conf --root --with"
 OPTIONS = {
     b"check": SOURCES + b" --modules --access --time --group --facts --accept --fail-on --format --json",
@@ -28,7 +28,7 @@ OPTIONS = {
     b"graph": SOURCES + b" --format" + ANSWERS + KNOWING,
     b"policy": SOURCES + b" --facts --fail-on --json" + KNOWING,
     b"needs": SOURCES + b" --facts --json" + KNOWING,
-    b"access": b"--access --user --group --rhost --tty --json",
+    b"access": b"--access --user --group --passwd --rhost --tty --json",
     b"time": b"--time --user --tty --at --at-unix --zone --json",
     b"facts": b"",
     b"version": b"",
@@ -44,7 +44,7 @@ WITH_SOURCE = [name for name, options in OPTIONS.items() if options.startswith(S
 ABOUT = (b"facts", b"version")
 VERSION = "1.0.0 (proved with rattle, logic dac8208d650f15bf)"
 # The forms of a check.
-FORMS = (b"short", b"json", b"sarif")
+FORMS = (b"short", b"full", b"json", b"sarif")
 REQUIRED = {b"access": [b"--access", b"--user"], b"time": [b"--time", b"--user"]}
 MOST_ARGUMENTS = {b"compare": 4, b"facts": 0, b"version": 0, b"show": 2, b"paths": 2, b"outcomes": 2, b"graph": 2, b"needs": 2, b"time": 1}
 LEAST_ARGUMENTS = {b"check": 0, b"compare": 2, b"facts": 0, b"version": 0, b"show": 1, b"decide": 2, b"paths": 2, b"outcomes": 2, b"graph": 2,
@@ -60,8 +60,9 @@ def answer(words, tree):
     """Standard output, standard error and the status."""
     words = [word if isinstance(word, bytes) else word.encode() for word in words]
     try:
-        text, status = Request(words).answer(tree)
-        return text, b"", status
+        request = Request(words)
+        text, status = request.answer(tree)
+        return text, request.unread, status
     except Fault as fault:
         return b"", fault_line(fault, words), fault.status()
     except WrongWords:
@@ -125,6 +126,8 @@ def outcome_line(decision, count, steps, modules):
 
 class Request:
     """What the words ask for, or their refusal."""
+
+    unread = b""  # what a check says of files that cannot be read, on standard error
 
     def __init__(self, words):
         for word in words:
@@ -215,7 +218,9 @@ class Request:
             text, status = self.comparison(tree).whole()
             return b"".join(map(json_lines.compared, text.splitlines())) if self.is_json() else text, status
         source = sources.Source(self.options, tree, self.candidates) if self.command in WITH_SOURCE else None
-        self.tables, self.access_tables, self.there = {}, [], None
+        self.tables, self.access_tables, self.there, self.passwd = {}, [], None, None
+        if source and source.shut and self.command != b"check":
+            raise Fault("V1", source.shut[0], told=sources.NOT_PERMITTED)
         if self.command in OF_LOGINS:
             self.learn(source, tree)
         for option in (b"--group", b"--time", b"--facts", b"--returns"):
@@ -223,6 +228,7 @@ class Request:
             if option in self.options and is_asked and self.command != b"check":
                 self.tables[option] = read(tree, self.options[option])
         if self.command == b"access":
+            self.passwd = plain_given.passwd(self.options, tree)
             self.access_tables = plain_given.named_access(plain_given.tables(self.options, tree))
             return self.access()
         if self.command == b"time":
@@ -283,28 +289,40 @@ class Request:
         given = plain_given.tables(self.options, tree, told)
         self.tables = {option: given[table][1] for table, option, _ in plain_given.TABLES if table in given}
         self.access_tables = plain_given.named_access(given)
+        self.passwd = plain_given.passwd(self.options, tree, bool(told))
 
     def check(self, source, tree):
         """What is wrong with a host."""
         folders = self.folders(tree)
         given = plain_given.tables(self.options, tree)
         data = {name: read(tree, self.options[name]) if name in self.options else b"" for name in (b"--facts", b"--accept")}
-        services.judge(source.files, self.services, self.options)
+        services.judge_root(source.files, self.options)
+        services.judge(source.files, self.services, self.options, source.dead)
         form, files = source.files.form, source.files.files
         if self.candidates:
             services.judge_candidates(plain_host.Host(form, files, self.services), [name for name, _ in self.candidates])
+        named = self.services
+        if source.shut:
+            self.unread = b"".join(said.line(Fault("V1", source.paths[name], told=sources.NOT_PERMITTED), b"check", [], {}) for name in source.shut)
+            named = services.left(plain_host.Host(form, files, self.services), source.shut)
+            if not named:
+                return b"", 5
         facts = plain_given.facts(data[b"--facts"])
         accepted = plain_given.accepted(data[b"--accept"])
         there = plain_given.there(self.options.get(b"--root"), folders, source.files, lambda path: found(tree, path))
-        host = plain_host.Host(form, files, self.services, there, facts, source.of_vendor, source.outside,
+        host = plain_host.Host(form, files, named, there, facts, source.of_vendor, source.outside,
                                plain_given.files_below(self.options.get(b"--root"), lambda path: found(tree, path)))
+        host.dead, host.is_whole = source.dead, not source.shut
         host.fact_lines = self.options.get(b"--facts", b""), plain_given.named_rows(data[b"--facts"])
         accept = self.options.get(b"--accept", b""), accepted
-        status = plain_host.status(plain_host.levels_of(*plain_host.unaccepted(host, accept, given)), self.options.get(b"--fail-on", b"warning"))
+        levels = plain_host.levels_of(*plain_host.unaccepted(host, accept, given))
+        status = 5 if source.shut else plain_host.status(levels, self.options.get(b"--fail-on", b"warning"))
         if self.form == b"json":
             return b"".join(json_lines.check(host, source.paths, accept, given)), status
         if self.form == b"sarif":
             return sarif.check(VERSION, host, source.paths, accept, given), status
+        if self.form == b"full":
+            return plain_host.text(host, source.paths, accept, given, full.below), status
         return plain_host.text(host, source.paths, accept, given), status
 
     def policy(self, source, named):
@@ -399,7 +417,7 @@ class Request:
         return None
 
     def access(self):
-        groups = tables.Groups(self.tables.get(b"--group", b""))
+        groups = tables.Groups(self.tables.get(b"--group", b""), self.passwd)
         granted, line, position = tables.answer_of_tables(self.access_tables, self.arguments[1:], self.login(), groups)
         names = self.options[b"--access"]
         table = names[position] if len(names) > 1 and position is not None else None
@@ -452,7 +470,7 @@ class Request:
 
         groups = None
         if any(needs_access(name, module.arguments) for name, module in zip(names, modules)):
-            groups = tables.Groups(self.tables.get(b"--group", b""))
+            groups = tables.Groups(self.tables.get(b"--group", b""), self.passwd)
         by_arguments = {}  # what the table answers where it is read with these arguments
         known = [None] * len(modules)
         for position, (name, module) in enumerate(zip(names, modules)):

@@ -1,5 +1,5 @@
-"""Services and candidates that the words name, read plainly from `docs/SPECIFICATION.md`: a name that is no service is refused (U18),
-and so is one of a candidate whose file no service that is checked reads (U19)."""
+"""Services and candidates that the words name, read plainly from `docs/SPECIFICATION.md`: a name that is no service is refused (U18), so
+is a check of a root without a configuration, and so is the name of a candidate whose file no service that is checked reads (U19)."""
 
 from model import faults, host, spelling, stacks
 from model.faults import Fault, LineFault
@@ -38,13 +38,20 @@ def place(options, form):
     return b" or ".join(options[name] for name in (b"--dir", b"--vendor-dir", b"--conf") if name in options)
 
 
-def judge(files, named, options):
-    """Refuses the first of the names that is no service of the configuration."""
+def judge_root(files, options):
+    """Refuses a root that has no configuration."""
+    if files.form == stacks.SINGLE and not files.files:
+        raise Fault("U18", said=host.shown(NO_CONFIGURATION % options[b"--root"]))
+
+
+def judge(files, named, options, dead=()):
+    """Refuses the first of the names that is no service of the configuration. It may be the name of one of these links that lead nowhere."""
     there = names(files)
     for name in named if there is not None else []:
-        if name.lower() not in there and b"--root" in options and files.form == stacks.SINGLE and not files.files:
-            raise Fault("U18", said=host.shown(NO_CONFIGURATION % options[b"--root"]))
         if name.lower() not in there:
+            judge_root(files, options)
+            if name.lower() in dead:
+                raise Fault("U18", said=host.shown(b": " + spelling.DEAD_LINK % (b'"%s"' % name, b"")))
             what = b"file" if files.form == stacks.DIR else b"rule of"
             said = b': there is no %s "%s" in %s' % (what, name, place(options, files.form))
             raise Fault("U18", said=host.shown(said + hint(spelling.nearest(there, name.lower()))))
@@ -58,6 +65,12 @@ def judge_sides(old, new, name, sides):
     near = next((found for found in (spelling.nearest(one, name.lower()) for one in reversed(there)) if found is not None), None)
     said = b': neither %s nor %s has a service "%s"' % (*sides, name)
     raise Fault("U18", said=host.shown(said + hint(near)))
+
+
+def left(checked, shut):
+    """The services of a host no stack of which takes rules from one of these files."""
+    return [service for service in checked.services
+            if not any(file in shut for kind in stacks.KINDS for file in checked.survey(service, kind)[2])]
 
 
 def judge_candidates(checked, names):

@@ -14,6 +14,11 @@ LOOPING = b"its links lead back to themselves; mend one of them"
 FAILED = b"it cannot be read; look what it is"
 # What is in a tree in the place of a link that leads back to itself.
 LOOP = "a loop of links"
+# What is in a tree in the place of any other link that leads nowhere.
+DEAD = "a link that leads nowhere"
+# What is in a tree in the place of a file that the system does not permit to read.
+SHUT = "a file that may not be read"
+NOT_PERMITTED = b"the system does not permit it; run pamcheck as a user who may read it"
 # The most bytes of a name of a file; the system answers of a longer one that it is too long, and not that it is not there.
 LONGEST = 255
 
@@ -43,13 +48,16 @@ class Outside(bytes):
 
 class Source:
     """The files of the source that the options name, the paths under which they are read, where `None` has that of the whole, and the
-    names of those that only the second folder has, and of those that are links which lead out of a folder."""
+    names of those that only the second folder has, of those that are links which lead out of a folder, of links which lead nowhere, and of
+    files that cannot be read, which are empty here."""
 
     def __init__(self, options, tree, given=()):
         self.tree = tree
         self.candidates = given
         self.paths = {}
         self.of_vendor = set()
+        self.dead = set()
+        self.shut = []
         if b"--dir" in options:
             self.files = self.folders([options[name] for name in (b"--dir", b"--vendor-dir") if name in options])
         elif b"--conf" in options:
@@ -70,13 +78,17 @@ class Source:
         above = set()
         for folder in names:
             there = {name.encode(): data for name, data in listed(self.tree, folder).items()}
-            for name, data in sorted((name, data) for name, data in there.items() if isinstance(data, bytes) and name not in above):
-                if name not in files:
-                    files[name] = data
+            for name, data in sorted((name, data) for name, data in there.items() if name not in above):
+                if name not in files and (isinstance(data, bytes) or data == SHUT):
+                    files[name] = b"" if data == SHUT else data
+                    self.shut += [name] * (data == SHUT)
                     self.paths[name] = joined(folder, name)
                     if folder != names[0]:
                         self.of_vendor.add(name)
-            above |= there.keys()
+            dead = {name for name, data in there.items() if data in (DEAD, LOOP)}
+            above |= there.keys() - dead
+            self.dead |= dead
+        self.dead -= files.keys()
         self.paths[None] = names[0]
         return stacks.Files(stacks.DIR, files)
 
