@@ -19,18 +19,18 @@ _pamcheck_options() {
             --format --json --help' ;;
         compare) echo '--conf --root --json --modules --facts --returns --set --help' ;;
         policy) echo '--dir --vendor-dir --conf --root --with --json --fail-on --facts --modules --user --rhost --tty
-            --access --time --group --returns --set --at --at-unix --zone --help' ;;
+            --access --time --group --passwd --returns --set --at --at-unix --zone --help' ;;
         show) echo '--dir --vendor-dir --conf --root --with --as --json --help' ;;
         decide) echo '--dir --vendor-dir --conf --root --with --json --help' ;;
         paths) echo '--dir --vendor-dir --conf --root --with --json --limit --after --before --decision --asks --modules
-            --user --rhost --tty --access --time --group --returns --set --at --at-unix --zone --help' ;;
+            --user --rhost --tty --access --time --group --passwd --returns --set --at --at-unix --zone --help' ;;
         outcomes) echo '--dir --vendor-dir --conf --root --with --json --answers --facts --modules --user --rhost --tty
-            --access --time --group --returns --set --at --at-unix --zone --help' ;;
+            --access --time --group --passwd --returns --set --at --at-unix --zone --help' ;;
         graph) echo '--dir --vendor-dir --conf --root --with --format --answers --facts --modules --user --rhost --tty
-            --access --time --group --returns --set --at --at-unix --zone --help' ;;
+            --access --time --group --passwd --returns --set --at --at-unix --zone --help' ;;
         needs) echo '--dir --vendor-dir --conf --root --with --json --facts --modules --user --rhost --tty --access
-            --time --group --returns --set --at --at-unix --zone --help' ;;
-        access) echo '--access --user --tty --group --rhost --json --help' ;;
+            --time --group --passwd --returns --set --at --at-unix --zone --help' ;;
+        access) echo '--access --user --tty --group --passwd --rhost --json --help' ;;
         time) echo '--time --user --tty --at --at-unix --zone --json --help' ;;
         *) echo --help ;;
     esac
@@ -42,10 +42,10 @@ _pamcheck_takes() {
     case $1:$2 in
         compare:--conf | compare:--root | *:--json) takes=nothing ;;
         *:--dir | *:--vendor-dir | *:--root | *:--modules) takes=folder ;;
-        *:--conf | *:--access | *:--time | *:--group | *:--facts | *:--accept | *:--returns) takes=file ;;
+        *:--conf | *:--access | *:--time | *:--group | *:--facts | *:--accept | *:--returns | *:--passwd) takes=file ;;
         *:--with) takes=candidate ;;
         *:--fail-on) takes='error warning note' ;;
-        check:--format) takes='short json sarif' ;;
+        check:--format) takes='short full json sarif' ;;
         *:--set) takes=setting ;;
         *:--user) takes=user ;;
         *:--rhost) takes=host ;;

@@ -191,8 +191,8 @@ complete -c pamcheck -n '__pamcheck_in check' -l accept -r -F \
     -d 'The findings that are meant to be, a line for each, as S2 SERVICE auth'
 complete -c pamcheck -n '__pamcheck_in check policy' -l fail-on -x -a 'error warning note' \
     -d 'error, warning or note: the least level that fails; warning if left out'
-complete -c pamcheck -n '__pamcheck_in check' -l format -x -a 'short json sarif' \
-    -d 'short (for people), json (as --json) or sarif (for code scanning); short if left out'
+complete -c pamcheck -n '__pamcheck_in check' -l format -x -a 'short full json sarif' \
+    -d 'short (for people), full (with the lines of files), json (as --json) or sarif (for code scanning); short if left out'
 complete -c pamcheck -n '__pamcheck_in check compare policy show decide paths outcomes needs access time' -l json \
     -d 'Answer in JSON Lines'
 complete -c pamcheck -n '__pamcheck_in compare' -l conf -d 'OLD and NEW are files for all services'
@@ -212,6 +212,8 @@ complete -c pamcheck -n '__pamcheck_in policy paths outcomes graph needs' -l acc
     -d 'An access table of pam_access.so; needs --user; may be repeated'
 complete -c pamcheck -n '__pamcheck_in policy paths outcomes graph needs' -l time -r -F \
     -d 'The time table of pam_time.so; needs --user and a moment'
+complete -c pamcheck -n '__pamcheck_in policy paths outcomes graph needs access' -l passwd -r -F \
+    -d 'The passwd file, whose users are also in their primary groups'
 complete -c pamcheck -n '__pamcheck_in policy paths outcomes graph needs time' -l at -x \
     -d 'The moment, as 2024-05-06T10:00'
 complete -c pamcheck -n '__pamcheck_in policy paths outcomes graph needs time' -l at-unix -x \
