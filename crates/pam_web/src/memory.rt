@@ -48,6 +48,14 @@ fn path_of(alloc: Global, place: Place<'_>) -> Result<PathBuf, AllocError>
     }
 }
 
+/// Whether a path goes on after this one, which is that of a file.
+fn is_through(file: &[u8], path: &[u8]) -> bool {
+    match path.strip_prefix(file) {
+        Some(rest) => rest.starts_with(b"/"),
+        None => false,
+    }
+}
+
 impl<'a> Memory<'a> {
     /// The bytes of the first file with this path.
     fn bytes_of(&self, path: &[u8]) -> Option<&'a [u8]>
@@ -69,6 +77,25 @@ impl<'a> Memory<'a> {
         Ok(is_any_below(self.files, start.as_str().as_bytes()))
     }
 
+    /// Returns why nothing is below this path: it goes through a file, or there is nothing.
+    fn why_nothing(&self, path: &[u8]) -> ErrorKind {
+        for file in self.files {
+            if is_through(file.path, path) {
+                return ErrorKind::NotADirectory;
+            }
+        }
+        ErrorKind::NotFound
+    }
+
+    /// Returns why no file has this path, which a folder may have.
+    fn why_no_file(&self, alloc: Global, path: &str) -> Result<ErrorKind, AllocError> {
+        if self.is_folder(alloc, path)? {
+            Ok(ErrorKind::IsADirectory)
+        } else {
+            Ok(self.why_nothing(path.as_bytes()))
+        }
+    }
+
     /// Returns the names by which the paths that begin with this text go on, in ascending byte order. None is an error.
     fn names_from(&self, alloc: Global, start: &[u8]) -> io::Result<Vec<&'a [u8]>>
         ensures { IfOk result (λ names. AreNames (memory_view self.now) start.now (map (λ n. n.now) names.items)) }
@@ -77,7 +104,7 @@ impl<'a> Memory<'a> {
             let names = entries_after(alloc, self.files, start)?;
             return Ok(names);
         }
-        Err(io::Error::from(ErrorKind::NotFound))
+        Err(io::Error::from(self.why_nothing(start)))
     }
 
     /// Returns the names of the entries of a folder, in ascending byte order.
@@ -130,7 +157,7 @@ impl System for Memory<'_> {
     fn file(&self, alloc: Global, path: &str) -> io::Result<Vec<u8>> {
         match self.bytes_of(path.as_bytes()) {
             Some(bytes) => Ok(Vec::from_slice(alloc, front(bytes))?),
-            None => Err(io::Error::from(ErrorKind::NotFound)),
+            None => Err(io::Error::from(self.why_no_file(alloc, path)?)),
         }
     }
 
