@@ -4,6 +4,8 @@ const EFFECTS = { admits: ['error', 'lets in'], refuses: ['warning', 'keeps out'
 
 const SIDES = { old: 'before only: ', new: 'after only: ', both: '' };
 
+const GUARDS = { counts: 'counts failed logins', checks: 'checks who logs in', refuses: 'may refuse a login' };
+
 const changeStep = ({ configuration, module, code }) => `${SIDES[configuration]}${module} ${code}`;
 
 const moduleList = (modules) => modules.map(({ module }) => module).join(', ');
@@ -31,6 +33,9 @@ function changeText(line) {
         .map((part) => `${part} ${moduleList(line[part])}`);
       return ['good', 'same decisions', `${place}${parts.length > 0 ? `: ${parts.join('; ')}` : ''}`];
     }
+    case 'guard':
+      return [line.change === 'removed' ? 'warning' : 'note', line.change,
+        `${place}: ${line.module}, which ${GUARDS[line.guard]} (${nameOf(line.file)}:${line.line})`];
     case 'not_known': return ['warning', 'not known', `${place}: there are too many situations`];
     default: return null;
   }
