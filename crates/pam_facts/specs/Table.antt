@@ -92,7 +92,7 @@ table =
     ∷ codes "pam_otpw checks account,password module_unknown"
     ∷ codes "pam_p11 checks"
     ∷ codes "pam_passwdqc passes auth,account,session module_unknown"
-    ∷ codes "pam_permit passes auth success conv_err conv_again abort buf_err system_err user_unknown account,password,session success"
+    ∷ codes "pam_permit passes auth,account,password,session success"
     ∷ codes "pam_pkcs11 checks"
     ∷ codes "pam_pkcs11 wait_for_card ignores"
     ∷ codes "pam_poldi checks account,password,session module_unknown"

@@ -97,7 +97,7 @@ const TABLE: &[u8] = b"\
     pam_otpw checks account,password module_unknown\n\
     pam_p11 checks\n\
     pam_passwdqc passes auth,account,session module_unknown\n\
-    pam_permit passes auth success conv_err conv_again abort buf_err system_err user_unknown account,password,session success\n\
+    pam_permit passes auth,account,password,session success\n\
     pam_pkcs11 checks\n\
     pam_pkcs11 wait_for_card ignores\n\
     pam_poldi checks account,password,session module_unknown\n\

@@ -120,7 +120,7 @@ const TABLE: &[u8] = b"\
     pam_pwdfile auth free pwdfile pwdfile= flock noflock nodelay debug use_first_pass try_first_pass legacy_crypt\n\
     pam_pwhistory password logs *try_first_pass *use_first_pass *use_authtok *debug *remember=:number *retry=:number \
         *enforce_for_root *authtok_type= *file= conf=\n\
-    pam_pwquality password logs debug type= difignore= ~reject_username ~authtok_type= ~use_authtok ~use_first_pass \
+    pam_pwquality password logs debug type= difignore= ~reject_username ~authtok_type authtok_type= ~use_authtok ~use_first_pass \
         ~try_first_pass *difok=:number *minlen=:number *dcredit=:number *ucredit=:number *lcredit=:number \
         *ocredit=:number *minclass=:number *maxrepeat=:number *maxclassrepeat=:number *maxsequence=:number \
         *gecoscheck=:number *dictcheck=:number *usercheck=:number *usersubstr=:number *enforcing=:number \
