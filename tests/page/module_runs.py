@@ -9,6 +9,8 @@ from page.library import program_answer, reason_against
 WORKED = os.path.join(os.path.dirname(os.path.realpath(__file__)), "..", "worked")
 OTHER_PATHS = "a module is looked for by a path that is not written as a file in memory is named"
 DATA = os.path.join(WORKED, "data").encode()
+# As many times more hosts are drawn at most as are to be compared.
+MOST_DRAWN = 2
 
 
 class Differs(Exception):
@@ -90,9 +92,11 @@ def has_empty_folder(tree):
 
 
 def drawn_hosts(library, program, number):
-    """How many drawn hosts are answered alike, and how many were not tried."""
+    """How many drawn hosts are answered alike, which are as many as are asked for, and how many were passed over for that."""
     count = left_out = 0
-    for words, tree in hosts.cases(number):
+    for words, tree in hosts.cases(MOST_DRAWN * number):
+        if count == number:
+            break
         words = [word if isinstance(word, bytes) else word.encode() for word in words]
         # Files in memory have no folder without a file.
         if reason_against(words) or has_empty_folder(tree):
