@@ -102,11 +102,9 @@ fn members_of_a_group(rt: HostRuntime) -> Result<(), Fail> {
         b"needs pam_rootok or pam_unix
 needs pam_rootok or pam_wheel
 needs pam_rootok or pam_faillock
-needs pam_rootok or pam_permit
 obeys pam_wheel
 obeys pam_faillock
 obeys pam_unix
-obeys pam_permit
 always asks pam_rootok
 "
             .as_slice()
