@@ -1,5 +1,6 @@
 -- The tables that a request is answered from: access.conf(5), group(5), time.conf(5).
-use Rattle.std.specs.Prelude.{ℕ, suc, ◌==◌, List, [], length, Option, Some, None, Result, Ok, Vec, Bool, true, false, is_none, is_some, nat_le, option_map, ◌&&◌, ◌||◌}
+use Rattle.std.specs.Prelude.{ℕ, suc, ◌==◌, List, [], length, Option, Some, None, Result, Ok, Vec, Bool, true, false, is_none, is_some, nat_le}
+use Rattle.std.specs.Prelude.{option_map, ◌&&◌, ◌||◌}
 use Rattle.std.specs.Bool.{beq}
 use Rattle.std.specs.Option.{option_map_or}
 use Rattle.std.specs.Global.{Global}

@@ -1,5 +1,6 @@
 -- S8: the lines of the accept file and of the facts file that say nothing of a host.
-use Rattle.std.specs.Prelude.{ℕ, ◌||◌, not, List, [], ◌∷◌, ◌++◌, codes, drop, filter_map, map, nat_eq, take, if◌then◌else◌, Option, Some, None, unwrap_or, false}
+use Rattle.std.specs.Prelude.{ℕ, ◌||◌, not, List, [], ◌∷◌, ◌++◌, codes, drop, filter_map, map, nat_eq, take, if◌then◌else◌, Option, Some, None}
+use Rattle.std.specs.Prelude.{unwrap_or, false}
 use Rattle.std.specs.List.{list_any, prefix_len, starts_with}
 use Rattle.std.specs.Option.{option_and_then, option_map_or}
 use Rattle.std.specs.Str.{bytes_eq}

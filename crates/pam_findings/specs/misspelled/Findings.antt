@@ -39,7 +39,7 @@ wrong_at outside entry = if is_outside outside entry.0.file then None else wrong
 abbrev pub right_names : Folder → Option (List (List ℕ)) → List (List ℕ) → Right
 right_names files there dead = record { files = first_names files; modules = first_modules there; dead = dead }
 
--- where the word stands: the piece of the line that the finding is about, in the bytes of the file from this line on
+-- the spot of the piece of the line that the finding is about, in the bytes of the file from this line on
 abbrev pub spot_in : Folder → Place → Wrong → List ℕ → Option Spot
 spot_in files place why line = option_and_then (spot_of place.line (from_line place.line (bytes_of files place.file))) (piece_of files.form why line)
 

@@ -62,7 +62,7 @@ fn wrong_at(outside: &[bool], entry: &(Place, Finding)) -> Option<Wrong>
     }
 }
 
-/// Where the word stands that a finding at this place is about, in its line.
+/// The spot of the word that a finding at this place is about, which is in this line.
 fn spot_in(
     alloc: Global,
     cursor: &mut Cursor<'_>,
