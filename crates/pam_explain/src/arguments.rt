@@ -8,7 +8,7 @@ ghost use Rattle.pam_explain.specs.Views.{explanation_view};
 
 use crate::explanation::{Explanation, Level};
 
-const UNKNOWN_ARGUMENT: Explanation = Explanation {
+pub const UNKNOWN_ARGUMENT: Explanation = Explanation {
     number: "S15",
     name: "UnknownArgument",
     level: Level::Warning,
@@ -29,7 +29,7 @@ const UNKNOWN_ARGUMENT: Explanation = Explanation {
     ),
 };
 
-const LONGER_WORD: Explanation = Explanation {
+pub const LONGER_WORD: Explanation = Explanation {
     number: "S16",
     name: "LongerWord",
     level: Level::Warning,
@@ -46,7 +46,7 @@ const LONGER_WORD: Explanation = Explanation {
     mending: "write the argument as the manual page of the module names it.",
 };
 
-const ARGUMENT_OF_OTHER_KIND: Explanation = Explanation {
+pub const ARGUMENT_OF_OTHER_KIND: Explanation = Explanation {
     number: "S17",
     name: "ArgumentOfOtherKind",
     level: Level::Note,
@@ -62,7 +62,7 @@ const ARGUMENT_OF_OTHER_KIND: Explanation = Explanation {
     mending: "remove it, or write it in the rule of the kind that reads it.",
 };
 
-const BAD_VALUE: Explanation = Explanation {
+pub const BAD_VALUE: Explanation = Explanation {
     number: "S18",
     name: "BadValue",
     level: Level::Warning,
@@ -84,7 +84,7 @@ const BAD_VALUE: Explanation = Explanation {
     mending: "write a value as the manual page of the module names it.",
 };
 
-const BAD_ARGUMENTS: Explanation = Explanation {
+pub const BAD_ARGUMENTS: Explanation = Explanation {
     number: "S19",
     name: "BadArguments",
     level: Level::Warning,
@@ -107,7 +107,7 @@ const BAD_ARGUMENTS: Explanation = Explanation {
     mending: "write what is missing, as the manual page of the module has it.",
 };
 
-const NO_TOKEN: Explanation = Explanation {
+pub const NO_TOKEN: Explanation = Explanation {
     number: "S20",
     name: "NoToken",
     level: Level::Warning,
@@ -135,7 +135,7 @@ const NO_TOKEN: Explanation = Explanation {
     ),
 };
 
-const STORED_THOUGH_REFUSED: Explanation = Explanation {
+pub const STORED_THOUGH_REFUSED: Explanation = Explanation {
     number: "S21",
     name: "StoredThoughRefused",
     level: Level::Warning,
@@ -161,7 +161,7 @@ const STORED_THOUGH_REFUSED: Explanation = Explanation {
     ),
 };
 
-const NOT_COUNTED: Explanation = Explanation {
+pub const NOT_COUNTED: Explanation = Explanation {
     number: "S22",
     name: "NotCounted",
     level: Level::Warning,
@@ -188,7 +188,7 @@ const NOT_COUNTED: Explanation = Explanation {
     ),
 };
 
-const WEAK_HASH: Explanation = Explanation {
+pub const WEAK_HASH: Explanation = Explanation {
     number: "S23",
     name: "WeakHash",
     level: Level::Warning,
@@ -208,7 +208,7 @@ const WEAK_HASH: Explanation = Explanation {
     ),
 };
 
-const MISSING_FILE: Explanation = Explanation {
+pub const MISSING_FILE: Explanation = Explanation {
     number: "S24",
     name: "MissingFile",
     level: Level::Warning,

@@ -1,24 +1,25 @@
-//! What each fault and each finding means: a table with a row for each number.
+//! What each fault and each finding means: a table with a row for each number. A row stands once, as a constant in the file of its
+//! family. Its number, name and level come from it wherever they are printed, and contracts cite it by its name.
 #![tactic(auto)]
 
-mod arguments;
+pub mod arguments;
 mod explanation;
-mod hosts;
+pub mod hosts;
 pub mod laws;
-mod links;
-mod modules;
-mod named;
-mod old_tables;
-mod own_files;
-mod paths;
-mod policies;
-mod released;
-mod rules;
+pub mod links;
+pub mod modules;
+pub mod named;
+pub mod old_tables;
+pub mod own_files;
+pub mod paths;
+pub mod policies;
+pub mod released;
+pub mod rules;
 mod shared;
-mod stacks;
+pub mod stacks;
 mod table;
-mod tables;
-mod words;
+pub mod tables;
+pub mod words;
 
 pub use explanation::{Explanation, Level};
 pub use table::{ExplanationsIter, explain, explanations};

@@ -8,7 +8,7 @@ ghost use Rattle.pam_explain.specs.Views.{explanation_view};
 
 use crate::explanation::{Explanation, Level};
 
-const LINK_OUTSIDE: Explanation = Explanation {
+pub const LINK_OUTSIDE: Explanation = Explanation {
     number: "S27",
     name: "LinkOutside",
     level: Level::Note,

@@ -9,7 +9,7 @@ ghost use Rattle.pam_explain.specs.Views.{explanation_view};
 use crate::explanation::{Explanation, Level};
 use crate::shared::{FAULT_OF_RUN, FAULT_OF_WORDS};
 
-const NO_SUCH_SERVICE: Explanation = Explanation {
+pub const NO_SUCH_SERVICE: Explanation = Explanation {
     number: "U18",
     name: "NoSuchService",
     level: Level::Error,
@@ -33,7 +33,7 @@ const NO_SUCH_SERVICE: Explanation = Explanation {
     ),
 };
 
-const UNUSED_CANDIDATE: Explanation = Explanation {
+pub const UNUSED_CANDIDATE: Explanation = Explanation {
     number: "U19",
     name: "UnusedCandidate",
     level: Level::Error,
@@ -58,7 +58,7 @@ const UNUSED_CANDIDATE: Explanation = Explanation {
     ),
 };
 
-const ANSWERS_NAME: Explanation = Explanation {
+pub const ANSWERS_NAME: Explanation = Explanation {
     number: "U20",
     name: "AnswersName",
     level: Level::Error,
@@ -71,7 +71,7 @@ const ANSWERS_NAME: Explanation = Explanation {
     ),
 };
 
-const FAILED_READ: Explanation = Explanation {
+pub const FAILED_READ: Explanation = Explanation {
     number: "V1",
     name: "Read",
     level: Level::Error,
@@ -85,7 +85,7 @@ const FAILED_READ: Explanation = Explanation {
     mending: "correct the name, or run pamcheck as a user who may read it.",
 };
 
-const FAILED_WRITE: Explanation = Explanation {
+pub const FAILED_WRITE: Explanation = Explanation {
     number: "V2",
     name: "Write",
     level: Level::Error,

@@ -9,7 +9,7 @@ ghost use Rattle.pam_explain.specs.Views.{explanation_view};
 use crate::explanation::{Explanation, Level};
 use crate::shared::END_LINE;
 
-const ZERO_MASK: Explanation = Explanation {
+pub const ZERO_MASK: Explanation = Explanation {
     number: "A1",
     name: "ZeroMask",
     level: Level::Warning,
@@ -31,7 +31,7 @@ const ZERO_MASK: Explanation = Explanation {
     mending: "write ALL, or the addresses.",
 };
 
-const NO_LINE_FEED_IN_ACCESS_TABLE: Explanation = Explanation {
+pub const NO_LINE_FEED_IN_ACCESS_TABLE: Explanation = Explanation {
     number: "A2",
     name: "NoLineFeed",
     level: Level::Warning,
@@ -49,7 +49,7 @@ const NO_LINE_FEED_IN_ACCESS_TABLE: Explanation = Explanation {
     mending: END_LINE,
 };
 
-const LEADING_BLANK: Explanation = Explanation {
+pub const LEADING_BLANK: Explanation = Explanation {
     number: "A3",
     name: "LeadingBlank",
     level: Level::Warning,
@@ -68,7 +68,7 @@ const LEADING_BLANK: Explanation = Explanation {
     mending: "remove the blanks before the rule.",
 };
 
-const BLANK_IN_TOKEN: Explanation = Explanation {
+pub const BLANK_IN_TOKEN: Explanation = Explanation {
     number: "A4",
     name: "BlankInToken",
     level: Level::Warning,
@@ -90,7 +90,7 @@ const BLANK_IN_TOKEN: Explanation = Explanation {
     mending: "remove the blanks around names, or write them into listsep=.",
 };
 
-const EMPTY_SEPARATOR: Explanation = Explanation {
+pub const EMPTY_SEPARATOR: Explanation = Explanation {
     number: "A5",
     name: "EmptySeparator",
     level: Level::Warning,
@@ -106,7 +106,7 @@ const EMPTY_SEPARATOR: Explanation = Explanation {
     mending: "give the argument a value, or remove it.",
 };
 
-const MASK_DIGITS: Explanation = Explanation {
+pub const MASK_DIGITS: Explanation = Explanation {
     number: "A6",
     name: "MaskDigits",
     level: Level::Warning,
@@ -128,7 +128,7 @@ const MASK_DIGITS: Explanation = Explanation {
     mending: "write the number of bits without zeros before it.",
 };
 
-const LOOPBACK: Explanation = Explanation {
+pub const LOOPBACK: Explanation = Explanation {
     number: "A7",
     name: "Loopback",
     level: Level::Note,
@@ -147,7 +147,7 @@ const LOOPBACK: Explanation = Explanation {
     mending: "name both, if the line is meant for logins over either.",
 };
 
-const NO_LINE_FEED_IN_TIME_TABLE: Explanation = Explanation {
+pub const NO_LINE_FEED_IN_TIME_TABLE: Explanation = Explanation {
     number: "T1",
     name: "NoLineFeed",
     level: Level::Warning,
@@ -168,7 +168,7 @@ const NO_LINE_FEED_IN_TIME_TABLE: Explanation = Explanation {
     mending: END_LINE,
 };
 
-const ODD_BYTES: Explanation = Explanation {
+pub const ODD_BYTES: Explanation = Explanation {
     number: "T2",
     name: "OddBytes",
     level: Level::Warning,
@@ -187,7 +187,7 @@ const ODD_BYTES: Explanation = Explanation {
     mending: "write * for the part of the name that has such bytes.",
 };
 
-const LONG_FIELD: Explanation = Explanation {
+pub const LONG_FIELD: Explanation = Explanation {
     number: "T3",
     name: "LongField",
     level: Level::Warning,
@@ -205,7 +205,7 @@ const LONG_FIELD: Explanation = Explanation {
     mending: "shorten the field, or write several rules.",
 };
 
-const FINISH_MINUTE: Explanation = Explanation {
+pub const FINISH_MINUTE: Explanation = Explanation {
     number: "T4",
     name: "FinishMinute",
     level: Level::Note,

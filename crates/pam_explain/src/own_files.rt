@@ -9,7 +9,7 @@ ghost use Rattle.pam_explain.specs.Views.{explanation_view};
 use crate::explanation::{Explanation, Level};
 use crate::shared::{OWN_ACCEPT_FILE, OWN_POLICY, OWN_RETURNS_FILE};
 
-const BAD_CODE: Explanation = Explanation {
+pub const BAD_CODE: Explanation = Explanation {
     number: "TE13",
     name: "BadCode",
     level: Level::Error,
@@ -34,7 +34,7 @@ const BAD_CODE: Explanation = Explanation {
     ),
 };
 
-const BAD_MODULE: Explanation = Explanation {
+pub const BAD_MODULE: Explanation = Explanation {
     number: "TE14",
     name: "BadModule",
     level: Level::Error,
@@ -53,7 +53,7 @@ const BAD_MODULE: Explanation = Explanation {
     mending: "write the name of the file alone, as pam_unix.so.",
 };
 
-const BAD_ACCEPT: Explanation = Explanation {
+pub const BAD_ACCEPT: Explanation = Explanation {
     number: "TE15",
     name: "BadAccept",
     level: Level::Error,
@@ -71,7 +71,7 @@ const BAD_ACCEPT: Explanation = Explanation {
     ),
 };
 
-const BAD_FACT: Explanation = Explanation {
+pub const BAD_FACT: Explanation = Explanation {
     number: "TE16",
     name: "BadFact",
     level: Level::Error,
@@ -90,7 +90,7 @@ const BAD_FACT: Explanation = Explanation {
     ),
 };
 
-const BAD_SERVICES: Explanation = Explanation {
+pub const BAD_SERVICES: Explanation = Explanation {
     number: "TE17",
     name: "BadServices",
     level: Level::Error,
@@ -110,7 +110,7 @@ const BAD_SERVICES: Explanation = Explanation {
     ),
 };
 
-const BAD_KINDS: Explanation = Explanation {
+pub const BAD_KINDS: Explanation = Explanation {
     number: "TE18",
     name: "BadKinds",
     level: Level::Error,
@@ -126,7 +126,7 @@ const BAD_KINDS: Explanation = Explanation {
     ),
 };
 
-const BAD_VERB: Explanation = Explanation {
+pub const BAD_VERB: Explanation = Explanation {
     number: "TE19",
     name: "BadVerb",
     level: Level::Error,
@@ -145,7 +145,7 @@ const BAD_VERB: Explanation = Explanation {
     ),
 };
 
-const BAD_EVENT: Explanation = Explanation {
+pub const BAD_EVENT: Explanation = Explanation {
     number: "TE20",
     name: "BadEvent",
     level: Level::Error,
@@ -165,7 +165,7 @@ const BAD_EVENT: Explanation = Explanation {
     ),
 };
 
-const BAD_LIST: Explanation = Explanation {
+pub const BAD_LIST: Explanation = Explanation {
     number: "TE21",
     name: "BadList",
     level: Level::Error,
@@ -184,7 +184,7 @@ const BAD_LIST: Explanation = Explanation {
     ),
 };
 
-const NO_ANSWERS: Explanation = Explanation {
+pub const NO_ANSWERS: Explanation = Explanation {
     number: "TE22",
     name: "NoAnswers",
     level: Level::Error,
@@ -203,7 +203,7 @@ const NO_ANSWERS: Explanation = Explanation {
     ),
 };
 
-const EXTRA_WORD: Explanation = Explanation {
+pub const EXTRA_WORD: Explanation = Explanation {
     number: "TE23",
     name: "ExtraWord",
     level: Level::Error,
@@ -219,7 +219,7 @@ const EXTRA_WORD: Explanation = Explanation {
     ),
 };
 
-const TOO_MANY_RULES: Explanation = Explanation {
+pub const TOO_MANY_RULES: Explanation = Explanation {
     number: "TE24",
     name: "TooManyRules",
     level: Level::Error,

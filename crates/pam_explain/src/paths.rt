@@ -9,7 +9,7 @@ ghost use Rattle.pam_explain.specs.Views.{explanation_view};
 use crate::explanation::{Explanation, Level};
 use crate::shared::{FAULT_OF_WORDS, OWN_CURSOR, TAKE_CURSOR};
 
-const CURSOR_SYNTAX: Explanation = Explanation {
+pub const CURSOR_SYNTAX: Explanation = Explanation {
     number: "C1",
     name: "Syntax",
     level: Level::Error,
@@ -26,7 +26,7 @@ const CURSOR_SYNTAX: Explanation = Explanation {
     mending: "copy the cursor from the last line of a page.",
 };
 
-const NOT_LEAST: Explanation = Explanation {
+pub const NOT_LEAST: Explanation = Explanation {
     number: "C2",
     name: "NotLeast",
     level: Level::Error,
@@ -44,7 +44,7 @@ const NOT_LEAST: Explanation = Explanation {
     mending: TAKE_CURSOR,
 };
 
-const TOO_SHORT: Explanation = Explanation {
+pub const TOO_SHORT: Explanation = Explanation {
     number: "C3",
     name: "TooShort",
     level: Level::Error,
@@ -62,7 +62,7 @@ const TOO_SHORT: Explanation = Explanation {
     mending: TAKE_CURSOR,
 };
 
-const TOO_LONG: Explanation = Explanation {
+pub const TOO_LONG: Explanation = Explanation {
     number: "C4",
     name: "TooLong",
     level: Level::Error,
@@ -79,7 +79,7 @@ const TOO_LONG: Explanation = Explanation {
     mending: TAKE_CURSOR,
 };
 
-const MOMENT_RANGE: Explanation = Explanation {
+pub const MOMENT_RANGE: Explanation = Explanation {
     number: "M1",
     name: "Range",
     level: Level::Error,
@@ -98,7 +98,7 @@ const MOMENT_RANGE: Explanation = Explanation {
     ),
 };
 
-const ZONE_RULE: Explanation = Explanation {
+pub const ZONE_RULE: Explanation = Explanation {
     number: "M2",
     name: "Rule",
     level: Level::Error,
@@ -117,7 +117,7 @@ const ZONE_RULE: Explanation = Explanation {
     ),
 };
 
-const MOMENT_SYNTAX: Explanation = Explanation {
+pub const MOMENT_SYNTAX: Explanation = Explanation {
     number: "M4",
     name: "Syntax",
     level: Level::Error,

@@ -9,7 +9,7 @@ ghost use Rattle.pam_explain.specs.Views.{explanation_view};
 use crate::explanation::{Explanation, Level};
 use crate::shared::OWN_POLICY;
 
-const BROKEN: Explanation = Explanation {
+pub const BROKEN: Explanation = Explanation {
     number: "P1",
     name: "Broken",
     level: Level::Error,
@@ -37,7 +37,7 @@ const BROKEN: Explanation = Explanation {
     ),
 };
 
-const IMPOSSIBLE: Explanation = Explanation {
+pub const IMPOSSIBLE: Explanation = Explanation {
     number: "P2",
     name: "Impossible",
     level: Level::Error,
@@ -60,7 +60,7 @@ const IMPOSSIBLE: Explanation = Explanation {
     ),
 };
 
-const NO_SERVICE_FITS: Explanation = Explanation {
+pub const NO_SERVICE_FITS: Explanation = Explanation {
     number: "P3",
     name: "NoService",
     level: Level::Error,
@@ -82,7 +82,7 @@ const NO_SERVICE_FITS: Explanation = Explanation {
     ),
 };
 
-const NO_MODULE_FITS: Explanation = Explanation {
+pub const NO_MODULE_FITS: Explanation = Explanation {
     number: "P4",
     name: "NoModule",
     level: Level::Error,
@@ -104,7 +104,7 @@ const NO_MODULE_FITS: Explanation = Explanation {
     ),
 };
 
-const IDLE: Explanation = Explanation {
+pub const IDLE: Explanation = Explanation {
     number: "P5",
     name: "Idle",
     level: Level::Warning,
@@ -126,7 +126,7 @@ const IDLE: Explanation = Explanation {
     ),
 };
 
-const NOT_KNOWN: Explanation = Explanation {
+pub const NOT_KNOWN: Explanation = Explanation {
     number: "P6",
     name: "NotKnown",
     level: Level::Error,
@@ -151,7 +151,7 @@ const NOT_KNOWN: Explanation = Explanation {
     ),
 };
 
-const NO_ARGUMENT: Explanation = Explanation {
+pub const NO_ARGUMENT: Explanation = Explanation {
     number: "P7",
     name: "NoArgument",
     level: Level::Warning,

@@ -8,7 +8,7 @@ ghost use Rattle.pam_explain.specs.Views.{explanation_view};
 
 use crate::explanation::{Explanation, Level};
 
-const CARRIAGE_RETURN: Explanation = Explanation {
+pub const CARRIAGE_RETURN: Explanation = Explanation {
     number: "L1",
     name: "CarriageReturn",
     level: Level::Warning,
@@ -25,7 +25,7 @@ const CARRIAGE_RETURN: Explanation = Explanation {
     mending: "end each line with a line feed alone: sed -i 's/\\r$//' FILE.",
 };
 
-const CONTINUED_OVER_BLANK: Explanation = Explanation {
+pub const CONTINUED_OVER_BLANK: Explanation = Explanation {
     number: "L2",
     name: "ContinuedOverBlank",
     level: Level::Warning,
@@ -47,7 +47,7 @@ const CONTINUED_OVER_BLANK: Explanation = Explanation {
     mending: "remove the backslash, or the blank lines and comments after it.",
 };
 
-const BACKSLASH_BLANK: Explanation = Explanation {
+pub const BACKSLASH_BLANK: Explanation = Explanation {
     number: "L3",
     name: "BackslashBlank",
     level: Level::Warning,
@@ -67,7 +67,7 @@ const BACKSLASH_BLANK: Explanation = Explanation {
     mending: "remove the blanks after the backslash, or the backslash.",
 };
 
-const BACKSLASH_COMMENT: Explanation = Explanation {
+pub const BACKSLASH_COMMENT: Explanation = Explanation {
     number: "L4",
     name: "BackslashComment",
     level: Level::Warning,
@@ -87,7 +87,7 @@ const BACKSLASH_COMMENT: Explanation = Explanation {
     mending: "remove the comment, or the backslash.",
 };
 
-const ENDS_IN_CONTINUATION: Explanation = Explanation {
+pub const ENDS_IN_CONTINUATION: Explanation = Explanation {
     number: "L5",
     name: "EndsInContinuation",
     level: Level::Warning,
@@ -104,7 +104,7 @@ const ENDS_IN_CONTINUATION: Explanation = Explanation {
     mending: "remove the backslash.",
 };
 
-const CAPITAL_IN_BRACKETS: Explanation = Explanation {
+pub const CAPITAL_IN_BRACKETS: Explanation = Explanation {
     number: "L6",
     name: "CapitalInBrackets",
     level: Level::Warning,
@@ -121,7 +121,7 @@ const CAPITAL_IN_BRACKETS: Explanation = Explanation {
     mending: "write what is in brackets in small letters.",
 };
 
-const LONG_LINE: Explanation = Explanation {
+pub const LONG_LINE: Explanation = Explanation {
     number: "L7",
     name: "LongLine",
     level: Level::Warning,
@@ -135,7 +135,7 @@ const LONG_LINE: Explanation = Explanation {
     mending: "shorten the rule.",
 };
 
-const EMPTY_MODULE_NAME: Explanation = Explanation {
+pub const EMPTY_MODULE_NAME: Explanation = Explanation {
     number: "L8",
     name: "EmptyModuleName",
     level: Level::Warning,
@@ -152,7 +152,7 @@ const EMPTY_MODULE_NAME: Explanation = Explanation {
     mending: "name the file of the module.",
 };
 
-const DROPPED_BLANK: Explanation = Explanation {
+pub const DROPPED_BLANK: Explanation = Explanation {
     number: "L9",
     name: "DroppedBlank",
     level: Level::Note,
@@ -173,7 +173,7 @@ const DROPPED_BLANK: Explanation = Explanation {
     mending: "write the word in brackets on one line.",
 };
 
-const INCLUDED_FROM_VENDOR: Explanation = Explanation {
+pub const INCLUDED_FROM_VENDOR: Explanation = Explanation {
     number: "L10",
     name: "IncludedFromVendor",
     level: Level::Error,

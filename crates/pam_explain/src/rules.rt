@@ -9,7 +9,7 @@ ghost use Rattle.pam_explain.specs.Views.{explanation_view};
 use crate::explanation::{Explanation, Level};
 use crate::shared::{CONTROL_FAILS, RESTORE_FILE};
 
-const NUL_BYTE: Explanation = Explanation {
+pub const NUL_BYTE: Explanation = Explanation {
     number: "E1",
     name: "NulByte",
     level: Level::Error,
@@ -22,7 +22,7 @@ const NUL_BYTE: Explanation = Explanation {
     mending: RESTORE_FILE,
 };
 
-const MISSING_FIELD: Explanation = Explanation {
+pub const MISSING_FIELD: Explanation = Explanation {
     number: "E2",
     name: "MissingField",
     level: Level::Error,
@@ -40,7 +40,7 @@ const MISSING_FIELD: Explanation = Explanation {
     mending: "write the words that are missing, or remove the line.",
 };
 
-const BAD_KIND: Explanation = Explanation {
+pub const BAD_KIND: Explanation = Explanation {
     number: "E3",
     name: "BadKind",
     level: Level::Error,
@@ -60,7 +60,7 @@ const BAD_KIND: Explanation = Explanation {
     ),
 };
 
-const BAD_CONTROL: Explanation = Explanation {
+pub const BAD_CONTROL: Explanation = Explanation {
     number: "E4",
     name: "BadControl",
     level: Level::Error,
@@ -76,7 +76,7 @@ const BAD_CONTROL: Explanation = Explanation {
     ),
 };
 
-const BAD_VALUE: Explanation = Explanation {
+pub const BAD_VALUE: Explanation = Explanation {
     number: "E5",
     name: "BadValue",
     level: Level::Error,
@@ -97,7 +97,7 @@ const BAD_VALUE: Explanation = Explanation {
     ),
 };
 
-const BAD_ACTION: Explanation = Explanation {
+pub const BAD_ACTION: Explanation = Explanation {
     number: "E6",
     name: "BadAction",
     level: Level::Error,
@@ -110,7 +110,7 @@ const BAD_ACTION: Explanation = Explanation {
     ),
 };
 
-const ZERO_JUMP: Explanation = Explanation {
+pub const ZERO_JUMP: Explanation = Explanation {
     number: "E7",
     name: "ZeroJump",
     level: Level::Error,
@@ -127,7 +127,7 @@ const ZERO_JUMP: Explanation = Explanation {
     mending: "write ok or ignore, or the number of items to jump over.",
 };
 
-const OPEN_BRACKET: Explanation = Explanation {
+pub const OPEN_BRACKET: Explanation = Explanation {
     number: "E8",
     name: "OpenBracket",
     level: Level::Error,

@@ -11,7 +11,7 @@ use crate::shared::{
     FAULT_OF_RUN, FAULT_OF_WORDS, FREE_MEMORY, NO_LIMIT, OWN_LIMIT, deep_substacks,
 };
 
-const MISSING_TARGET: Explanation = Explanation {
+pub const MISSING_TARGET: Explanation = Explanation {
     number: "E9",
     name: "MissingTarget",
     level: Level::Error,
@@ -28,7 +28,7 @@ const MISSING_TARGET: Explanation = Explanation {
     mending: "write the name of the file, or remove the line.",
 };
 
-const BAD_TARGET: Explanation = Explanation {
+pub const BAD_TARGET: Explanation = Explanation {
     number: "E10",
     name: "BadTarget",
     level: Level::Warning,
@@ -46,7 +46,7 @@ const BAD_TARGET: Explanation = Explanation {
     ),
 };
 
-const CYCLE: Explanation = Explanation {
+pub const CYCLE: Explanation = Explanation {
     number: "E11",
     name: "Cycle",
     level: Level::Error,
@@ -67,7 +67,7 @@ const CYCLE: Explanation = Explanation {
     mending: "remove the line, or the one that leads back to this file.",
 };
 
-const TOO_DEEP: Explanation = Explanation {
+pub const TOO_DEEP: Explanation = Explanation {
     number: "E12",
     name: "TooDeep",
     level: Level::Error,
@@ -83,7 +83,7 @@ const TOO_DEEP: Explanation = Explanation {
     mending: "include fewer files in one another.",
 };
 
-const TOO_MANY_MODULES: Explanation = Explanation {
+pub const TOO_MANY_MODULES: Explanation = Explanation {
     number: "E13",
     name: "TooManyModules",
     level: Level::Error,
@@ -93,7 +93,7 @@ const TOO_MANY_MODULES: Explanation = Explanation {
     mending: "remove rules, or files that are included more than once.",
 };
 
-const INCLUDE_IN_SINGLE_FILE: Explanation = Explanation {
+pub const INCLUDE_IN_SINGLE_FILE: Explanation = Explanation {
     number: "E14",
     name: "IncludeInSingleFile",
     level: Level::Error,
@@ -116,7 +116,7 @@ const INCLUDE_IN_SINGLE_FILE: Explanation = Explanation {
     ),
 };
 
-const NO_SERVICE: Explanation = Explanation {
+pub const NO_SERVICE: Explanation = Explanation {
     number: "E15",
     name: "NoService",
     level: Level::Error,
@@ -134,7 +134,7 @@ const NO_SERVICE: Explanation = Explanation {
     mending: "correct the name, or make the file; in pam.conf, write the rules.",
 };
 
-const FILE_TOO_LONG: Explanation = Explanation {
+pub const FILE_TOO_LONG: Explanation = Explanation {
     number: "E16",
     name: "FileTooLong",
     level: Level::Error,
@@ -150,7 +150,7 @@ const FILE_TOO_LONG: Explanation = Explanation {
     ),
 };
 
-const MEMORY: Explanation = Explanation {
+pub const MEMORY: Explanation = Explanation {
     number: "E17",
     name: "Memory",
     level: Level::Error,
@@ -160,7 +160,7 @@ const MEMORY: Explanation = Explanation {
     mending: FREE_MEMORY,
 };
 
-const TOO_MANY_FOLLOWED: Explanation = Explanation {
+pub const TOO_MANY_FOLLOWED: Explanation = Explanation {
     number: "E18",
     name: "TooManyFollowed",
     level: Level::Error,
@@ -176,7 +176,7 @@ const TOO_MANY_FOLLOWED: Explanation = Explanation {
     mending: "include fewer files.",
 };
 
-const TOO_MANY_STATES: Explanation = Explanation {
+pub const TOO_MANY_STATES: Explanation = Explanation {
     number: "E19",
     name: "TooManyStates",
     level: Level::Error,
@@ -195,7 +195,7 @@ const TOO_MANY_STATES: Explanation = Explanation {
     ),
 };
 
-const WRONG_COUNT: Explanation = Explanation {
+pub const WRONG_COUNT: Explanation = Explanation {
     number: "DE1",
     name: "WrongCount",
     level: Level::Error,

@@ -9,7 +9,7 @@ ghost use Rattle.pam_explain.specs.Views.{explanation_view};
 use crate::explanation::{Explanation, Level};
 use crate::shared::{FAULT_OF_RUN, FREE_MEMORY, RESTORE_FILE};
 
-const MISSING_FIELD: Explanation = Explanation {
+pub const MISSING_FIELD: Explanation = Explanation {
     number: "TE1",
     name: "MissingField",
     level: Level::Error,
@@ -31,7 +31,7 @@ const MISSING_FIELD: Explanation = Explanation {
     ),
 };
 
-const BAD_PERMISSION: Explanation = Explanation {
+pub const BAD_PERMISSION: Explanation = Explanation {
     number: "TE2",
     name: "BadPermission",
     level: Level::Error,
@@ -48,7 +48,7 @@ const BAD_PERMISSION: Explanation = Explanation {
     mending: "write + or - before the first colon.",
 };
 
-const NETGROUP: Explanation = Explanation {
+pub const NETGROUP: Explanation = Explanation {
     number: "TE3",
     name: "Netgroup",
     level: Level::Note,
@@ -69,7 +69,7 @@ const NETGROUP: Explanation = Explanation {
     ),
 };
 
-const USER_AT_HOST: Explanation = Explanation {
+pub const USER_AT_HOST: Explanation = Explanation {
     number: "TE4",
     name: "UserAtHost",
     level: Level::Note,
@@ -89,7 +89,7 @@ const USER_AT_HOST: Explanation = Explanation {
     ),
 };
 
-const BAD_MASK: Explanation = Explanation {
+pub const BAD_MASK: Explanation = Explanation {
     number: "TE5",
     name: "BadMask",
     level: Level::Error,
@@ -106,7 +106,7 @@ const BAD_MASK: Explanation = Explanation {
     mending: "correct the mask, as in 10.0.0.0/8 or 10.0.0.0/255.0.0.0.",
 };
 
-const BAD_TIMES: Explanation = Explanation {
+pub const BAD_TIMES: Explanation = Explanation {
     number: "TE6",
     name: "BadTimes",
     level: Level::Error,
@@ -126,7 +126,7 @@ const BAD_TIMES: Explanation = Explanation {
     ),
 };
 
-const TWO_WILDCARDS: Explanation = Explanation {
+pub const TWO_WILDCARDS: Explanation = Explanation {
     number: "TE7",
     name: "TwoWildcards",
     level: Level::Error,
@@ -140,7 +140,7 @@ const TWO_WILDCARDS: Explanation = Explanation {
     mending: "write the names out, joined by |.",
 };
 
-const BAD_LOGIC: Explanation = Explanation {
+pub const BAD_LOGIC: Explanation = Explanation {
     number: "TE8",
     name: "BadLogic",
     level: Level::Error,
@@ -157,7 +157,7 @@ const BAD_LOGIC: Explanation = Explanation {
     mending: "write | for or, and & for and.",
 };
 
-const BAD_GROUP: Explanation = Explanation {
+pub const BAD_GROUP: Explanation = Explanation {
     number: "TE9",
     name: "BadGroup",
     level: Level::Error,
@@ -177,7 +177,7 @@ const BAD_GROUP: Explanation = Explanation {
     ),
 };
 
-const NUL_BYTE: Explanation = Explanation {
+pub const NUL_BYTE: Explanation = Explanation {
     number: "TE10",
     name: "NulByte",
     level: Level::Error,
@@ -196,7 +196,7 @@ const NUL_BYTE: Explanation = Explanation {
     mending: RESTORE_FILE,
 };
 
-const MEMORY: Explanation = Explanation {
+pub const MEMORY: Explanation = Explanation {
     number: "TE11",
     name: "Memory",
     level: Level::Error,
@@ -209,7 +209,7 @@ const MEMORY: Explanation = Explanation {
     mending: FREE_MEMORY,
 };
 
-const TABLE_TOO_LONG: Explanation = Explanation {
+pub const TABLE_TOO_LONG: Explanation = Explanation {
     number: "TE12",
     name: "TableTooLong",
     level: Level::Error,

@@ -9,7 +9,7 @@ ghost use Rattle.pam_explain.specs.Views.{explanation_view};
 use crate::explanation::{Explanation, Level};
 use crate::shared::{FAULT_OF_RUN, FAULT_OF_WORDS, FREE_MEMORY, GIVE_ONE};
 
-const NOT_UTF8: Explanation = Explanation {
+pub const NOT_UTF8: Explanation = Explanation {
     number: "U1",
     name: "NotUtf8",
     level: Level::Error,
@@ -22,7 +22,7 @@ const NOT_UTF8: Explanation = Explanation {
     mending: "write the word in UTF-8, or rename the file that it names.",
 };
 
-const SOURCE: Explanation = Explanation {
+pub const SOURCE: Explanation = Explanation {
     number: "U2",
     name: "Source",
     level: Level::Error,
@@ -40,7 +40,7 @@ const SOURCE: Explanation = Explanation {
     ),
 };
 
-const KIND_NAME: Explanation = Explanation {
+pub const KIND_NAME: Explanation = Explanation {
     number: "U3",
     name: "KindName",
     level: Level::Error,
@@ -50,7 +50,7 @@ const KIND_NAME: Explanation = Explanation {
     mending: "write auth, account, password or session.",
 };
 
-const CODE_NAME: Explanation = Explanation {
+pub const CODE_NAME: Explanation = Explanation {
     number: "U4",
     name: "CodeName",
     level: Level::Error,
@@ -63,7 +63,7 @@ const CODE_NAME: Explanation = Explanation {
     ),
 };
 
-const LOGIN: Explanation = Explanation {
+pub const LOGIN: Explanation = Explanation {
     number: "U5",
     name: "Login",
     level: Level::Error,
@@ -76,7 +76,7 @@ const LOGIN: Explanation = Explanation {
     mending: "add --user, and where the table asks for them --rhost and --tty.",
 };
 
-const MOMENT: Explanation = Explanation {
+pub const MOMENT: Explanation = Explanation {
     number: "U6",
     name: "Moment",
     level: Level::Error,
@@ -92,7 +92,7 @@ const MOMENT: Explanation = Explanation {
     ),
 };
 
-const MEMORY: Explanation = Explanation {
+pub const MEMORY: Explanation = Explanation {
     number: "U7",
     name: "Memory",
     level: Level::Error,
@@ -102,7 +102,7 @@ const MEMORY: Explanation = Explanation {
     mending: FREE_MEMORY,
 };
 
-const BOTH_ENDS: Explanation = Explanation {
+pub const BOTH_ENDS: Explanation = Explanation {
     number: "U8",
     name: "BothEnds",
     level: Level::Error,
@@ -115,7 +115,7 @@ const BOTH_ENDS: Explanation = Explanation {
     mending: GIVE_ONE,
 };
 
-const NO_SUCH_MODULE: Explanation = Explanation {
+pub const NO_SUCH_MODULE: Explanation = Explanation {
     number: "U9",
     name: "NoSuchModule",
     level: Level::Error,
@@ -129,7 +129,7 @@ const NO_SUCH_MODULE: Explanation = Explanation {
     mending: "take the number from the lines that show prints.",
 };
 
-const NO_SUCH_KEY: Explanation = Explanation {
+pub const NO_SUCH_KEY: Explanation = Explanation {
     number: "U10",
     name: "NoSuchKey",
     level: Level::Error,
@@ -147,7 +147,7 @@ const NO_SUCH_KEY: Explanation = Explanation {
     mending: "take the name, number or place from the lines that show prints.",
 };
 
-const BOTH_FILTERS: Explanation = Explanation {
+pub const BOTH_FILTERS: Explanation = Explanation {
     number: "U11",
     name: "BothFilters",
     level: Level::Error,
@@ -157,7 +157,7 @@ const BOTH_FILTERS: Explanation = Explanation {
     mending: GIVE_ONE,
 };
 
-const FORMAT_NAME: Explanation = Explanation {
+pub const FORMAT_NAME: Explanation = Explanation {
     number: "U12",
     name: "FormatName",
     level: Level::Error,
@@ -170,11 +170,12 @@ const FORMAT_NAME: Explanation = Explanation {
     mending: concat!(
         "for graph, write dot, mermaid or svg, in small letters. svg is a\n",
         "picture; of dot, Graphviz makes one: dot -Tpng. For check, write\n",
-        "short, full, json or sarif, and no other one than json beside --json."
+        "short, full, json, sarif or patch, and no other one than json beside\n",
+        "--json."
     ),
 };
 
-const LEVEL_NAME: Explanation = Explanation {
+pub const LEVEL_NAME: Explanation = Explanation {
     number: "U13",
     name: "LevelName",
     level: Level::Error,
@@ -184,7 +185,7 @@ const LEVEL_NAME: Explanation = Explanation {
     mending: "write error, warning or note, in small letters.",
 };
 
-const NO_SUCH_NUMBER: Explanation = Explanation {
+pub const NO_SUCH_NUMBER: Explanation = Explanation {
     number: "U14",
     name: "NoSuchNumber",
     level: Level::Error,
@@ -194,7 +195,7 @@ const NO_SUCH_NUMBER: Explanation = Explanation {
     mending: "write a number such as E15. explain without a number lists all.",
 };
 
-const CANDIDATE_FORM: Explanation = Explanation {
+pub const CANDIDATE_FORM: Explanation = Explanation {
     number: "U15",
     name: "CandidateForm",
     level: Level::Error,
@@ -211,7 +212,7 @@ const CANDIDATE_FORM: Explanation = Explanation {
     ),
 };
 
-const RELEASE_FORM: Explanation = Explanation {
+pub const RELEASE_FORM: Explanation = Explanation {
     number: "U16",
     name: "ReleaseForm",
     level: Level::Error,
@@ -224,7 +225,7 @@ const RELEASE_FORM: Explanation = Explanation {
     mending: "write linux-pam-1.5 or linux-pam-1.7, without --json.",
 };
 
-const SETTING_FORM: Explanation = Explanation {
+pub const SETTING_FORM: Explanation = Explanation {
     number: "U17",
     name: "SettingForm",
     level: Level::Error,

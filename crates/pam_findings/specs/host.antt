@@ -17,6 +17,7 @@ pub mod Modules
 pub mod OtherAnswers
 pub mod Problems
 pub mod Report
+pub mod Rows
 pub mod Separators
 pub mod StackProblems
 pub mod Storing

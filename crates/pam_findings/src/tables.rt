@@ -7,6 +7,7 @@ mod judging;
 mod needs;
 mod problem;
 mod report;
+mod row;
 
 pub use host_tables::HostTables;
 pub use problem::{HostTable, TableFinding, TablePlace, TableProblem};

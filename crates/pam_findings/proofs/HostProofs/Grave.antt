@@ -5,6 +5,7 @@ use Rattle.std.specs.List.{list_any}
 use Rattle.std.specs.Option.{option_and_then, option_map, option_map_or}
 use Rattle.std.proofs.lemmas.Bool.{cases_Bool, false≢true, or_cases}
 use Rattle.std.proofs.lemmas.Option.{slice_get_within}
+use Rattle.pam_codes.specs.declared.error.ControlError.TheVariants.{BadControl}
 use Rattle.pam_conf.specs.Files.{Named}
 use Rattle.pam_conf.specs.Stack.{ModuleText}
 use Rattle.pam_conf.specs.declared.error.FaultKind.{FaultKind}
@@ -16,15 +17,17 @@ use Rattle.pam_facts.specs.Answers.{is_there}
 use Rattle.pam_text.specs.Members.{Member}
 use Rattle.pam_paths.proofs.Alike.{Member-codes}
 use Rattle.pam_findings.specs.host.FileProblems.{files_read}
-use Rattle.pam_findings.specs.host.Levels.{level_of_argument, level_of_fault}
+use Rattle.pam_findings.specs.host.Levels.{level_of_argument}
 use Rattle.pam_findings.specs.host.MissingFiles.{absence_of, may_lack_file, missing_by, names_file}
-use Rattle.pam_findings.specs.declared.host.level.Level.TheVariants.{Note, Warning}
+use Rattle.pam_findings.specs.host.Rows.{row_of_fault}
+use Rattle.pam_explain.specs.declared.explanation.Level.TheVariants.{Note, Warning}
 use Rattle.pam_findings.specs.declared.host.problem.ArgumentProblem.{ArgumentProblem}
 use Rattle.pam_findings.specs.declared.host.problem.ArgumentProblem.TheVariants.{MissingFile}
 
 -- no fault is a note
-pub grave : (fault : FaultKind) → level_of_fault fault ≡ Note → ⊥
-grave faults.BadTarget h = cc
+pub grave : (fault : FaultKind) → (row_of_fault fault).level ≡ Note → ⊥
+grave (faults.Control BadControl) h = cc
+grave (faults.Control error) h = cc
 grave fault h = cc
 
 -- LISTS

@@ -13,8 +13,8 @@ use Rattle.pam_findings.specs.host.Problems.{compare_places, place_of}
 use Rattle.pam_findings.specs.host.Report.{IsPlaced}
 use Rattle.pam_findings.specs.host.inner.Linked.{IsFirstLink, IsLinkAt}
 use Rattle.pam_findings.specs.host.inner.Table.{ArePlaced, Puts, Table, finding_at, with_met}
-use Rattle.pam_findings.specs.declared.host.level.Level.{Level}
-use Rattle.pam_findings.specs.declared.host.level.Level.TheVariants.{Error, Note, Warning}
+use Rattle.pam_explain.specs.declared.explanation.Level.{Level}
+use Rattle.pam_explain.specs.declared.explanation.Level.TheVariants.{Error, Note, Warning}
 use Rattle.pam_findings.specs.declared.host.problem.Place.{Place}
 use Rattle.pam_findings.specs.declared.host.problem.Problem.{Problem}
 use Rattle.pam_findings.specs.declared.host.problem.Problem.TheVariants as problems

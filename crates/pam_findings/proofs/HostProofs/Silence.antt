@@ -45,7 +45,7 @@ use Rattle.pam_findings.specs.host.Verdicts.{IsJudgement, IsVerdict, Judged, Jud
 use Rattle.pam_findings.specs.host.Verdicts.{way_in_of}
 use Rattle.pam_findings.specs.stack.Asked.{Asks}
 use Rattle.pam_findings.specs.stack.Leading.{Leads}
-use Rattle.pam_findings.specs.declared.host.level.Level.TheVariants.{Note, Warning}
+use Rattle.pam_explain.specs.declared.explanation.Level.TheVariants.{Note, Warning}
 use Rattle.pam_findings.specs.declared.host.problem.ArgumentProblem.TheVariants.{NoToken}
 use Rattle.pam_findings.specs.declared.host.problem.Place.{Place}
 use Rattle.pam_findings.specs.declared.host.problem.Problem.{Problem}

@@ -35,7 +35,7 @@ use Rattle.pam_findings.specs.host.Tokens.{may_ask_for, only_takes}
 use Rattle.pam_findings.specs.host.Verdicts.{IsCauseOf, IsFailing, IsFree, IsOpen, LetsNobody, SaysWhoLogsIn, answers_on, way_in_of}
 use Rattle.pam_findings.specs.declared.host.alone.Whole.{Whole}
 use Rattle.pam_findings.specs.declared.host.alone.Whole.TheVariants.{Anybody, Nobody}
-use Rattle.pam_findings.specs.declared.host.level.Level.TheVariants.{Note}
+use Rattle.pam_explain.specs.declared.explanation.Level.TheVariants.{Note}
 use Rattle.pam_findings.specs.declared.host.problem.ArgumentProblem.{ArgumentProblem}
 use Rattle.pam_findings.specs.declared.host.problem.Place.{Place}
 use Rattle.pam_findings.specs.declared.host.problem.Problem.{Problem}
