@@ -1,10 +1,17 @@
+pub mod AboutParts
+pub mod AtSpots
+pub mod CertainWords
 pub mod Feeds
 pub mod LaterWords
+pub mod LinesFrom
 pub mod NearestActions
 pub mod NearestNames
 pub mod Offsets
+pub mod Opening
+pub mod Parts
 pub mod Pieces
 pub mod ReadLines
 pub mod Readers
 pub mod Thirds
+pub mod Written
 pub mod WrongTokens

@@ -1,14 +1,17 @@
 pub mod About
 pub mod Actions
+pub mod Certain
 pub mod Cursors
 pub mod Findings
 pub mod Laws
 pub mod Lines
 pub mod Misspelled
 pub mod MisspelledView
+pub mod Open
 pub mod Pairs
 pub mod Paths
 pub mod Pieces
 pub mod RightWords
 pub mod Spots
+pub mod Written
 pub mod inner

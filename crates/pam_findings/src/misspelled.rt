@@ -3,10 +3,12 @@
 
 mod about;
 mod actions;
+mod certain;
 mod cursor;
 mod findings;
 pub mod laws;
 mod offsets;
+mod open;
 mod pairs;
 mod path;
 mod pieces;
@@ -15,9 +17,10 @@ mod right_words;
 mod spot;
 mod word;
 
+pub use certain::name_part;
 pub use cursor::{Cursor, after_feeds};
 pub use findings::misspelled_words;
 pub use offsets::line_len;
 pub use right_words::MAX_NAMES;
-pub use spot::Spot;
+pub use spot::{Spot, line_feeds};
 pub use word::Misspelled;

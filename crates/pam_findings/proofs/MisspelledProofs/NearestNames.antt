@@ -1,23 +1,15 @@
 -- The right words.
-use Rattle.std.proofs.Common.{◌≡◌, ◌∙◌, ◌+◌, ◌<◌, ◌≤◌, ◌++◌, ℕ, Bool, true, false, List, [], ◌∷◌, Option, Some, None, Result, Bor, IfOk, append-nil}
-use Rattle.std.proofs.Common.{arith, ap, codes, eqb, length, map, min, refl, slice_get, subst, sym, take}
+use Rattle.std.proofs.Common.{◌≡◌, ◌∙◌, ◌+◌, ◌<◌, ◌≤◌, ◌++◌, ℕ, Bool, true, false, List, [], ◌∷◌, Some, None, Bor, append-nil}
+use Rattle.std.proofs.Common.{arith, ap, codes, eqb, filter, length, map, min, refl, slice_get, sym, take}
 use Rattle.std.proofs.lemmas.Bool.{eqb-false, eqb-true}
 use Rattle.std.proofs.lemmas.List.{length-map, take-append-le, take_all, take_more}
 use Rattle.std.proofs.lemmas.Option.{get_or_from_slice_get, slice_get-map, slice_get-get_or, slice_get_within}
 use Rattle.std.specs.Option.{option_map}
-use Rattle.std.specs.declared.alloc.AllocError.{AllocError}
 use Rattle.pam_codes.specs.Code.{code_names}
 use Rattle.pam_conf.specs.Files.{Named}
-use Rattle.pam_spelling.specs.Nearest.{nearest}
 use Rattle.pam_findings.specs.misspelled.RightWords.{controls, kinds, values}
 
 -- KINDS AND CONTROLS
-
--- the nearest of some words, by equal words
-pub by_words : (result : Result (Option (Bor (List ℕ))) AllocError) (words others : List (List ℕ)) (word : List ℕ) → words ≡ others
-    → IfOk result (λ found. option_map (λ w. w.now) found ≡ nearest words word) → IfOk result (λ found. option_map (λ w. w.now) found ≡ nearest others word)
-by_words result words others word e h =
-    subst (λ (ws : List (List ℕ)). IfOk result (λ found. option_map (λ w. w.now) found ≡ nearest ws word)) e h
 
 pub kinds-are : (a b c d : List ℕ) → a ≡ codes "auth" → b ≡ codes "account" → c ≡ codes "password" → d ≡ codes "session" → a ∷ b ∷ c ∷ d ∷ [] ≡ kinds
 kinds-are a b c d e f g h = rw (e, f, g, h) refl
@@ -32,6 +24,16 @@ unfolding code_names
 values-are words n one other e many f g = rw (e, many, f, g) refl
 
 -- LISTS OF WORDS
+
+-- the bytes of those words that pass a test
+pub map_filter : (test : List ℕ → Bool) (words : List (Bor (List ℕ))) → map (λ w. w.now) (filter (λ w. test w.now) words)
+    ≡ filter test (map (λ w. w.now) words)
+map_filter test [] = refl
+map_filter test (w ∷ words) = elim (test w.now) as (λ (t : Bool). test w.now ≡ t →
+    map (λ w. w.now) (filter (λ w. test w.now) (w ∷ words)) ≡ filter test (map (λ w. w.now) (w ∷ words))) [
+      | true ↦ λ e. rw e (ap (λ (ws : List (List ℕ)). w.now ∷ ws) (map_filter test words))
+      | false ↦ λ e. rw e (map_filter test words)
+    ] refl
 
 -- one more word
 pub one_word : (words : List (List ℕ)) (position : ℕ) (before : List (List ℕ)) (word : List ℕ) → before ≡ take position words

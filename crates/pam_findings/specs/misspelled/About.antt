@@ -2,12 +2,14 @@
 use Rattle.std.specs.Prelude.{ℕ, ◌+◌, List, [], ◌∷◌, codes, if◌then◌else◌, Option}
 use Rattle.std.specs.Option.{option_and_then}
 use Rattle.pam_codes.specs.Code.{same_name}
+use Rattle.pam_codes.specs.declared.error.ControlError.TheVariants.{OpenBracket}
 use Rattle.pam_conf.specs.Remaining.{words_left}
 use Rattle.pam_conf.specs.Words.{text_of_word}
 use Rattle.pam_conf.specs.declared.error.FaultKind.{FaultKind}
 use Rattle.pam_conf.specs.declared.error.FaultKind.TheVariants.{BadKind, Control}
 use Rattle.pam_conf.specs.declared.rule.Form.{Form}
 use Rattle.pam_conf.specs.declared.rule.Form.TheVariants.{Dir, Single}
+use Rattle.pam_findings.specs.misspelled.Open.{open_piece}
 use Rattle.pam_findings.specs.misspelled.Pairs.{wrong_piece}
 use Rattle.pam_findings.specs.misspelled.Pieces.{piece_at}
 use Rattle.pam_findings.specs.declared.misspelled.word.Wrong.{Wrong}
@@ -31,6 +33,7 @@ target_of line = word_of line (target_at (words_left line))
 
 abbrev pub of_fault : Form → FaultKind → List ℕ → Option (ℕ × List ℕ)
 of_fault form BadKind line = word_of line (kind_at form)
+of_fault form (Control OpenBracket) line = open_piece line
 of_fault form (Control error) line = option_and_then (wrong_piece error) (word_of line (kind_at form + 1))
 of_fault form fault line = target_of line
 

@@ -8,6 +8,7 @@ misspelled_view m = record {
   of = m.module.items;
   word = m.word.items;
   nearest = option_map (λ word. word.items) m.nearest;
+  is_certain = m.is_certain;
   leads_nowhere = m.leads_nowhere;
   spot = m.spot;
 }

@@ -1,11 +1,13 @@
 //! The piece of a line that a finding is about.
 
 ghost use Rattle.std.specs.Prelude.{◌≡◌, ◌+◌, IfOk};
-ghost use Rattle.std.specs.Option.{option_map};
+ghost use Rattle.std.specs.Option.{option_and_then, option_map};
 ghost use Rattle.pam_conf.specs.Remaining.{words_left};
 ghost use Rattle.pam_findings.specs.misspelled.About.{kind_at, of_fault, piece_of, target_at, target_of, word_of};
+ghost use Rattle.pam_findings.specs.misspelled.Pairs.{wrong_piece};
 ghost use Rattle.pam_findings.specs.misspelled.inner.Spans.{span_view};
 
+use crate::misspelled::open::open_piece;
 use crate::misspelled::pairs::wrong_piece;
 use crate::misspelled::pieces::{Span, word_at};
 use crate::misspelled::word::Wrong;
@@ -48,11 +50,24 @@ fn target_of<'a>(line: &'a [u8], inside: &mut Vec<u8>) -> Result<Option<Span<'a>
 }
 
 /// The control, or the word in it that is wrong by this error.
-fn of_control(form: Form, error: ControlError, line: &[u8]) -> Option<Span<'_>>
-    ensures { option_map span_view result ≡ of_fault form (FaultKind.Control error) line.now }
+fn in_control(form: Form, error: ControlError, line: &[u8]) -> Option<Span<'_>>
+    ensures { option_map span_view result ≡ option_and_then (wrong_piece error) (word_of line.now (kind_at form + 1)) }
 {
     let control = word_at(line, kind_at(form) + 1)?;
     wrong_piece(error, control)
+}
+
+/// The same, or the word whose bracket stays open.
+fn of_control(form: Form, error: ControlError, line: &[u8]) -> Option<Span<'_>>
+    ensures { option_map span_view result ≡ of_fault form (FaultKind.Control error) line.now }
+{
+    match error {
+        ControlError::OpenBracket => open_piece(line),
+        ControlError::BadControl
+        | ControlError::BadValue
+        | ControlError::BadAction
+        | ControlError::ZeroJump => in_control(form, error, line),
+    }
 }
 
 /// The piece that a fault is about. The text of a word in brackets replaces the contents of `inside`.

@@ -65,7 +65,7 @@ fn digits_of(word: &[u8]) -> Option<&'static [u8]>
 }
 
 /// The words that one after `=` is compared with.
-fn after_sign(alloc: Global) -> Result<Vec<&'static [u8]>, AllocError>
+pub(crate) fn after_sign(alloc: Global) -> Result<Vec<&'static [u8]>, AllocError>
     ensures { IfOk result (λ words. map (λ w. w.now) words.items ≡ after_sign) }
 {
     let others = [

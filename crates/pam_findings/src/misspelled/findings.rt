@@ -181,9 +181,10 @@ fn right_names<'a>(
 /// all (E4), and a return code and an action in brackets (E5, E6) are compared without case with those of pam.conf(5), the name of a target
 /// that is not there (E15) with the names of the first 1,000 files, the name of a module that is not there (S5) with the first 1,000 of the
 /// paths in `there`, and an argument (S15, S16) with those that its module knows. A module of which something else is said (S3, S13, S14,
-/// S25, S26), and a target of the vendor's folder (L10) are right words. `None` for a finding that is not about a word, and for one at a
-/// file that is a link which leads out of its folder, by what `outside` says at its position: its words are not to be told. A target that
-/// is not there, and `other` where there is no such file (S6), may be among the names in `dead`, those of links that lead nowhere.
+/// S25, S26), and a target of the vendor's folder (L10) are right words, and the word whose bracket stays open (E8) has none beside it.
+/// `None` for a finding that is not about a word, and for one at a file that is a link which leads out of its folder, by what `outside`
+/// says at its position: its words are not to be told. A target that is not there, and `other` where there is no such file (S6), may be
+/// among the names in `dead`, those of links that lead nowhere.
 ///
 /// Takes time linear in the files and the findings, if the findings are in the order of their places.
 pub fn misspelled_words(

@@ -79,8 +79,9 @@ fn nearest_in_lowercase<'a>(
     Ok(nearest(words, &lower))
 }
 
-fn nearest_kind(alloc: Global, word: &[u8]) -> Result<Option<&'static [u8]>, AllocError>
-    ensures { IfOk result (λ found. option_map (λ w. w.now) found ≡ nearest kinds (map to_ascii_lowercase word.now)) }
+/// The kinds.
+pub(crate) fn kinds(alloc: Global) -> Result<Vec<&'static [u8]>, AllocError>
+    ensures { IfOk result (λ words. map (λ w. w.now) words.items ≡ kinds) }
 {
     let kinds = [
         "auth".as_bytes(),
@@ -88,11 +89,20 @@ fn nearest_kind(alloc: Global, word: &[u8]) -> Result<Option<&'static [u8]>, All
         "password".as_bytes(),
         "session".as_bytes(),
     ];
+    let words = Vec::from_slice(alloc, &kinds)?;
+    Ok(words)
+}
+
+fn nearest_kind(alloc: Global, word: &[u8]) -> Result<Option<&'static [u8]>, AllocError>
+    ensures { IfOk result (λ found. option_map (λ w. w.now) found ≡ nearest kinds (map to_ascii_lowercase word.now)) }
+{
+    let kinds = kinds(alloc)?;
     nearest_in_lowercase(alloc, &kinds, word)
 }
 
-fn nearest_keyword(alloc: Global, word: &[u8]) -> Result<Option<&'static [u8]>, AllocError>
-    ensures { IfOk result (λ found. option_map (λ w. w.now) found ≡ nearest controls (map to_ascii_lowercase word.now)) }
+/// The controls that are words.
+pub(crate) fn controls(alloc: Global) -> Result<Vec<&'static [u8]>, AllocError>
+    ensures { IfOk result (λ words. map (λ w. w.now) words.items ≡ controls) }
 {
     let controls = [
         "required".as_bytes(),
@@ -102,6 +112,14 @@ fn nearest_keyword(alloc: Global, word: &[u8]) -> Result<Option<&'static [u8]>, 
         "include".as_bytes(),
         "substack".as_bytes(),
     ];
+    let words = Vec::from_slice(alloc, &controls)?;
+    Ok(words)
+}
+
+fn nearest_keyword(alloc: Global, word: &[u8]) -> Result<Option<&'static [u8]>, AllocError>
+    ensures { IfOk result (λ found. option_map (λ w. w.now) found ≡ nearest controls (map to_ascii_lowercase word.now)) }
+{
+    let controls = controls(alloc)?;
     nearest_in_lowercase(alloc, &controls, word)
 }
 
@@ -117,7 +135,7 @@ fn name_of(number: u8) -> &'static [u8]
 }
 
 /// The words that may stand before `=`.
-fn values(alloc: Global) -> Result<Vec<&'static [u8]>, AllocError>
+pub(crate) fn values(alloc: Global) -> Result<Vec<&'static [u8]>, AllocError>
     ensures { IfOk result (λ words. map (λ w. w.now) words.items ≡ values) }
 {
     let mut words = Vec::new(alloc);

@@ -18,7 +18,8 @@ pub struct Spot {
     pub len: usize,
 }
 
-fn line_feeds(bytes: &[u8]) -> usize
+/// The number of line feeds.
+pub fn line_feeds(bytes: &[u8]) -> usize
     ensures value { result ≡ count_by is_feed bytes.now }
     ensures bound { result ≤ length bytes.now }
 {

@@ -5,12 +5,17 @@ ghost use Rattle.std.specs.List.{list_any};
 ghost use Rattle.std.specs.Option.{option_map, option_map_or};
 ghost use Rattle.std.specs.Str.{bytes_eq};
 ghost use Rattle.pam_findings.specs.misspelled.Misspelled.{dead_link, fault_word, is_dead, misspelled_argument, misspelled_in, nearest_by};
-ghost use Rattle.pam_findings.specs.misspelled.Misspelled.{nearest_known, nearest_to};
+ghost use Rattle.pam_findings.specs.misspelled.Misspelled.{is_certain_right, nearest_known, nearest_to};
 ghost use Rattle.pam_findings.specs.misspelled.Misspelled.{of_argument, with_nearest, wrong_word};
 ghost use Rattle.pam_findings.specs.misspelled.MisspelledView.{misspelled_view};
+ghost use Rattle.pam_findings.specs.misspelled.Open.{open_piece};
 ghost use Rattle.pam_findings.specs.misspelled.inner.MisspelledView.{right_view};
 
 use crate::host::ArgumentProblem;
+use crate::misspelled::certain::{
+    is_certain as is_certain_of, is_certain_argument, is_certain_fault,
+};
+use crate::misspelled::open::open_piece;
 use crate::misspelled::pairs::wrong_in;
 use crate::misspelled::path::{argument_in, path_in};
 use crate::misspelled::right_words::{nearest_module, nearest_right};
@@ -55,6 +60,8 @@ pub struct Misspelled {
     pub word: Vec<u8>,
     /// The nearest right word, if it is wrong and one is near.
     pub nearest: Option<Vec<u8>>,
+    /// Whether no other right word is as near.
+    pub is_certain: bool,
     /// Whether it is the name of a file that is a link which leads nowhere.
     pub leads_nowhere: bool,
     /// The place of the word in its file.
@@ -85,6 +92,23 @@ fn nearest_to<'a>(
     }
 }
 
+/// Whether no other right word is as near as the one that was found.
+fn is_certain<'a>(
+    alloc: Global,
+    right: &RightNames<'a>,
+    wrong: Wrong,
+    word: &[u8],
+    found: Option<&'a [u8]>,
+) -> Result<bool, AllocError>
+    ensures { IfOk result (λ certain. certain ≡ is_certain_right (right_view right.now) wrong word.now (option_map (λ w. w.now) found.entry)) }
+{
+    match wrong {
+        Wrong::Fault(fault) => is_certain_fault(alloc, &right.files, fault, word, found),
+        Wrong::NoModule => is_certain_of(alloc, &right.modules, name_of_path(word), found),
+        Wrong::Path | Wrong::Target | Wrong::Argument(..) => Ok(false),
+    }
+}
+
 /// The name of a link that leads nowhere.
 pub(crate) fn dead_link(alloc: Global, name: &[u8]) -> Result<Misspelled, AllocError>
     ensures { IfOk result (λ m. misspelled_view m ≡ dead_link name.now) }
@@ -93,6 +117,7 @@ pub(crate) fn dead_link(alloc: Global, name: &[u8]) -> Result<Misspelled, AllocE
         module: Vec::new(alloc),
         word: Vec::from_slice(alloc, name)?,
         nearest: None,
+        is_certain: false,
         leads_nowhere: true,
         spot: None,
     })
@@ -130,14 +155,26 @@ fn with_nearest(
     if is_dead(right, wrong, word) {
         return dead_link(alloc, word);
     }
-    let nearest = owned_if_any(alloc, nearest_to(alloc, right, wrong, word)?)?;
+    let found = nearest_to(alloc, right, wrong, word)?;
+    let is_certain = is_certain(alloc, right, wrong, word, found)?;
     Ok(Misspelled {
         module: Vec::new(alloc),
         word: Vec::from_slice(alloc, word)?,
-        nearest,
+        nearest: owned_if_any(alloc, found)?,
+        is_certain,
         leads_nowhere: false,
         spot: None,
     })
+}
+
+/// The rest of a line from a bracket on that stays open.
+fn open_word(line: &[u8]) -> Option<&[u8]>
+    ensures { option_map (λ t. t.now) result ≡ option_map (λ piece. piece.1) (open_piece line.now) }
+{
+    match open_piece(line) {
+        Some(piece) => Some(piece.bytes),
+        None => None,
+    }
 }
 
 /// The word of a fault, of one in brackets a word of the control. Its text may replace the contents of `inside`.
@@ -152,6 +189,9 @@ fn fault_word<'a>(
     let FaultKind::Control(error) = fault else {
         return word_at_fault(form, line, fault, inside);
     };
+    if let ControlError::OpenBracket = error {
+        return Ok(open_word(line));
+    }
     // A control that is none at all is the whole word, as it is written.
     let whole = FaultKind::Control(ControlError::BadControl);
     match word_at_fault(form, line, whole, inside)? {
@@ -225,11 +265,13 @@ fn of_argument(
 ) -> Result<Misspelled, AllocError>
     ensures { IfOk result (λ m. misspelled_view m ≡ of_argument wrong path.now word.now) }
 {
-    let nearest = owned_if_any(alloc, nearest_by(alloc, arguments, wrong, path, word)?)?;
+    let found = nearest_by(alloc, arguments, wrong, path, word)?;
+    let is_certain = is_certain_argument(alloc, arguments, path, word, found)?;
     Ok(Misspelled {
         module: Vec::from_slice(alloc, name_of_path(path))?,
         word: Vec::from_slice(alloc, word)?,
-        nearest,
+        nearest: owned_if_any(alloc, found)?,
+        is_certain,
         leads_nowhere: false,
         spot: None,
     })
