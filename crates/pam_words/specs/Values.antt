@@ -20,7 +20,7 @@ use Rattle.pam_words.specs.declared.wanted.GraphFormat.TheVariants.{Dot, Mermaid
 use Rattle.pam_words.specs.declared.wanted.LevelName.{LevelName}
 use Rattle.pam_words.specs.declared.wanted.LevelName.TheVariants.{Error, Warning, Note}
 use Rattle.pam_words.specs.declared.wanted.OutputForm.{OutputForm}
-use Rattle.pam_words.specs.declared.wanted.OutputForm.TheVariants.{Full, Json, PlainText, Sarif}
+use Rattle.pam_words.specs.declared.wanted.OutputForm.TheVariants.{Full, Json, Patch, PlainText, Sarif}
 use Rattle.pam_words.specs.declared.wanted.PathFilter.{PathFilter}
 use Rattle.pam_words.specs.declared.wanted.PathFilter.TheVariants.{All, Decides, Asks}
 use Rattle.pam_words.specs.declared.wanted.ReleaseName.{ReleaseName}
@@ -212,6 +212,7 @@ form_named name =
     else if bytes_eq name (codes "full") then Some Full
     else if bytes_eq name (codes "json") then Some Json
     else if bytes_eq name (codes "sarif") then Some Sarif
+    else if bytes_eq name (codes "patch") then Some Patch
     else None
 
 -- the form of a check, which `--json` and `--format` ask for alike where both are given. The columns are the values of `--format` and,

@@ -227,7 +227,7 @@ pub(crate) const OUTPUT_FORMAT: ArgRow = ArgRow {
     form: ArgForm::Optional,
     id: "format",
     name: "FORM",
-    help: "short (for people), full (with the lines of files), json (as --json) or sarif (for code scanning); short if left out",
+    help: "short (for people), full (with the lines of files), json (as --json), sarif (for code scanning) or patch (a diff that mends); short if left out",
 };
 
 pub(crate) const ANSWERS: ArgRow = ArgRow {

@@ -38,6 +38,8 @@ pub enum OutputForm {
     Json,
     /// One document in SARIF 2.1.0, of `check` alone.
     Sarif,
+    /// A unified diff of what has one certain mending, of `check` alone.
+    Patch,
 }
 
 /// A release of Linux-PAM, whose reading of a file is shown.

@@ -15,6 +15,10 @@ use crate::number::number_parser;
 use clap::{Arg, ArgAction, Command};
 use std::alloc::{AllocError, Global};
 
+/// What the help says of the language server. These two words alone start it, and the program sees to them itself.
+const EDITORS: &str =
+    "For editors: 'pamcheck lsp' says what 'check' finds while a file is edited (pamcheck-lsp(8))";
+
 /// Returns the version of the program, and the toolchain that proved it.
 pub fn version() -> &'static str
     ensures { result.now ≡ version }
@@ -92,6 +96,7 @@ fn bare_command<'a>(alloc: Global) -> Command<'a>
 {
     Command::new(alloc, "pamcheck")
         .about("Checks what the PAM configuration of a system can decide")
+        .after_help(EDITORS)
         .version(version())
         .subcommand_required(true)
 }

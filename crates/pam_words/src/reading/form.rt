@@ -35,6 +35,8 @@ fn form_named(name: &str) -> Option<OutputForm>
         Some(OutputForm::Json)
     } else if name == "sarif" {
         Some(OutputForm::Sarif)
+    } else if name == "patch" {
+        Some(OutputForm::Patch)
     } else {
         None
     }

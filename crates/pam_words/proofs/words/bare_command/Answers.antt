@@ -14,7 +14,8 @@ pub returns-clause-app : goal.returns-clause-app
 unfolding bare_app with-version with-required
 returns-clause-app c =
     let named : app_of c.about.result ≡ app_of c.new.result = ap app_of_fields c.about.ensures in
-    let versioned : app_of c.version-2.result ≡ with-version (app_of c.about.result) = ap app_of_fields c.version-2.ensures in
+    let helped : app_of c.after_help.result ≡ app_of c.about.result = ap app_of_fields c.after_help.ensures in
+    let versioned : app_of c.version-2.result ≡ with-version (app_of c.after_help.result) = ap app_of_fields c.version-2.ensures in
     let required : app_of c.subcommand_required.result ≡ with-required (app_of c.version-2.result) =
     ap app_of_fields c.subcommand_required.ensures in
-    required ∙ ap with-required (versioned ∙ ap with-version (named ∙ c.new.ensures.app))
+    required ∙ ap with-required (versioned ∙ ap with-version (helped ∙ (named ∙ c.new.ensures.app)))
