@@ -9,7 +9,7 @@ use Rattle.pam_findings.specs.host.Levels.{level_of}
 use Rattle.pam_findings.specs.host.Links.{WithLinks}
 use Rattle.pam_findings.specs.host.Report.{IsReport, host_of}
 use Rattle.pam_conf.specs.Services.{checked_services}
-use Rattle.pam_findings.specs.declared.host.level.Level.TheVariants.{Note}
+use Rattle.pam_explain.specs.declared.explanation.Level.TheVariants.{Note}
 use Rattle.pam_findings.specs.declared.host.problem.Place.{Place}
 use Rattle.pam_findings.specs.declared.host.report.Finding.{Finding}
 use Rattle.pam_findings.specs.declared.host.way_in.WayIn.{WayIn}

@@ -3,24 +3,20 @@ use Rattle.std.specs.Prelude.{ℕ, ◌==◌, Bool, not, List, [], ◌∷◌, ◌
 use Rattle.std.specs.Prelude.{Option, Some, None, slice_get, unwrap_or}
 use Rattle.std.specs.BTreeMap.{BTreeMap}
 use Rattle.std.specs.List.{list_any}
-use Rattle.std.specs.Option.{option_map_or}
 use Rattle.std.specs.Str.{bytes_eq}
 use Rattle.pam_findings.specs.accepted.Lines.{Accepted}
 use Rattle.pam_conf.specs.Files.{Folder}
 use Rattle.pam_conf.specs.declared.rule.Kind.{Kind}
 use Rattle.pam_findings.specs.declared.host.problem.Place.{Place}
 use Rattle.pam_findings.specs.declared.host.report.Finding.{Finding}
+use Rattle.pam_findings.specs.host.Rows.{row_of}
+use Rattle.pam_findings.specs.tables.Rows.{row_of as row_of_table}
 use Rattle.pam_facts.specs.known.Answers.{name_of_path}
 use Rattle.pam_findings.specs.declared.tables.problem.TableFinding.{TableFinding}
 use Rattle.pam_findings.specs.declared.tables.problem.TablePlace.{TablePlace}
-use Rattle.pam_text.specs.Cut.{cut_at, is_among}
 use Rattle.pam_report.specs.Fault.{file_at}
-use Rattle.pam_report.specs.Names.{kind_name, problem_name, stack_of}
-use Rattle.pam_report.specs.TablePaths.{TablePathsText, path_of, table_problem_name}
-
--- a number is what is before the blank of a number and a name
-abbrev pub number_in : List ℕ → List ℕ
-number_in name = option_map_or (λ p. p.0) (cut_at (is_among (32 ∷ [])) name) name
+use Rattle.pam_report.specs.Names.{kind_name, stack_of}
+use Rattle.pam_report.specs.TablePaths.{TablePathsText, path_of}
 
 -- the service at a position
 abbrev pub service_at : List (List ℕ) → ℕ → List ℕ
@@ -48,12 +44,12 @@ place_key files services place None = file_key (file_at files place.file) place.
 
 -- THE KEY of a finding: its number and its place
 unfoldable pub key_of : Folder → List (List ℕ) → Place × Finding → List ℕ
-key_of files services entry = number_in (problem_name entry.1.problem) ++ place_key files services entry.0 (stack_of entry.1.problem)
+key_of files services entry = (row_of entry.1.problem).number ++ place_key files services entry.0 (stack_of entry.1.problem)
 
 -- THE KEY of a problem of a table: its number, and the name of the table's file with the line
 unfoldable pub table_key_of : TablePathsText → TableFinding → List ℕ
 table_key_of paths finding =
-    number_in (table_problem_name finding.problem) ++ file_key (Some (name_of_path (path_of paths finding.table finding.number))) finding.line
+    (row_of_table finding.problem).number ++ file_key (Some (name_of_path (path_of paths finding.table finding.number))) finding.line
 
 -- some line has this key
 abbrev pub accepts : List Accepted → List ℕ → Bool

@@ -37,7 +37,7 @@ unfoldable pub mending_of : Meant → List ℕ
 mending_of meant.Kind = codes "write auth, account, password or session"
 mending_of meant.Code = codes "write one as success"
 mending_of meant.Drawing = codes "write dot, mermaid or svg"
-mending_of meant.Form = codes "write short, full, json or sarif"
+mending_of meant.Form = codes "write short, full, json, sarif or patch"
 mending_of meant.Level = codes "write error, warning or note"
 mending_of meant.Answers = codes "write any or possible"
 mending_of meant.Setting = codes "write one as pam_unix.so=success"
@@ -52,7 +52,7 @@ unfoldable pub right_words : Meant → List (List ℕ)
 right_words meant.Kind = codes "auth" ∷ codes "account" ∷ codes "password" ∷ codes "session" ∷ []
 right_words meant.Code = code_names
 right_words meant.Drawing = codes "dot" ∷ codes "mermaid" ∷ codes "svg" ∷ []
-right_words meant.Form = codes "short" ∷ codes "full" ∷ codes "json" ∷ codes "sarif" ∷ []
+right_words meant.Form = codes "short" ∷ codes "full" ∷ codes "json" ∷ codes "sarif" ∷ codes "patch" ∷ []
 right_words meant.Level = codes "error" ∷ codes "warning" ∷ codes "note" ∷ []
 right_words meant.Answers = codes "any" ∷ codes "possible" ∷ []
 right_words meant = []

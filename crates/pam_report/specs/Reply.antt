@@ -12,8 +12,8 @@ use Rattle.pam_dispatch.specs.declared.flat_item.FlatItem.{FlatItem}
 use Rattle.pam_explain.specs.Explanation.{Explanation}
 use Rattle.pam_graph.specs.Walks.{GraphValue}
 use Rattle.pam_findings.specs.host.Levels.{level_of}
-use Rattle.pam_findings.specs.declared.host.level.Level.{Level}
-use Rattle.pam_findings.specs.declared.host.level.Level.TheVariants as levels
+use Rattle.pam_explain.specs.declared.explanation.Level.{Level}
+use Rattle.pam_explain.specs.declared.explanation.Level.TheVariants as levels
 use Rattle.pam_findings.specs.declared.host.problem.Place.{Place}
 use Rattle.pam_findings.specs.declared.host.report.Finding.{Finding}
 use Rattle.pam_findings.specs.declared.host.way_in.WayIn.{WayIn}
@@ -37,7 +37,8 @@ use Rattle.pam_words.specs.declared.wanted.PagePart.{PagePart}
 use Rattle.pam_report.specs.Decide.{AskedModule}
 use Rattle.pam_report.specs.PolicyLevels.{policy_level}
 use Rattle.pam_report.specs.Released.{ReleasedValue}
-use Rattle.pam_report.specs.TablePaths.{TablePathsText, level_of_table_problem}
+use Rattle.pam_findings.specs.tables.Rows.{row_of as row_of_table}
+use Rattle.pam_report.specs.TablePaths.{TablePathsText}
 use Rattle.pam_report.specs.Unused.{UnusedText, level_of_unused}
 use Rattle.pam_report.specs.declared.fault.Fault.{Fault}
 use Rattle.pam_report.specs.declared.report.policy.JudgedPolicy.{JudgedPolicy}
@@ -185,7 +186,7 @@ has_counting fail_on found = list_any (λ entry. counts fail_on (level_of entry.
 
 -- some problem of a table counts
 abbrev pub has_counting_table : LevelName → List TableFinding → Bool
-has_counting_table fail_on tables = list_any (λ finding. counts fail_on (level_of_table_problem finding.problem)) tables
+has_counting_table fail_on tables = list_any (λ finding. counts fail_on (row_of_table finding.problem).level) tables
 
 -- some line that says nothing counts
 abbrev pub has_counting_line : LevelName → List UnusedText → Bool

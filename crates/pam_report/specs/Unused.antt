@@ -6,8 +6,11 @@ use Rattle.std.specs.Option.{option_and_then, option_map_or}
 use Rattle.std.specs.Str.{bytes_eq}
 use Rattle.pam_conf.specs.Files.{Folder}
 use Rattle.pam_facts.specs.Paths.{module_name}
-use Rattle.pam_findings.specs.declared.host.level.Level.{Level}
-use Rattle.pam_findings.specs.declared.host.level.Level.TheVariants.{Note, Warning}
+use Rattle.pam_explain.specs.declared.explanation.Level.{Level}
+use Rattle.pam_explain.specs.declared.explanation.Level.TheVariants.{Note}
+use Rattle.pam_explain.specs.declared.hosts.TheConstants as of_hosts
+use Rattle.pam_explain.specs.Explanation.{Explanation}
+use Rattle.pam_explain.specs.Views.{row_view}
 use Rattle.pam_findings.specs.declared.misspelled.right_words.TheConstants.{MAX_NAMES}
 use Rattle.pam_findings.specs.misspelled.Misspelled.{MisspelledText}
 use Rattle.pam_findings.specs.misspelled.MisspelledView.{misspelled_view}
@@ -37,9 +40,13 @@ abbrev pub file_of_unused : List ℕ → List ℕ → UnusedText → List ℕ
 file_of_unused accept facts (OfAccept line) = accept
 file_of_unused accept facts (OfFacts line name) = facts
 
--- HOW GRAVE it is: a finding that is not accepted is reported, but a facts file may be that of many hosts
+-- THE ROW of such a line
+abbrev pub unused_row : Explanation
+unused_row = row_view of_hosts.UNUSED_LINE
+
+-- HOW GRAVE it is: as its row says, but a facts file may be that of many hosts
 abbrev pub level_of_unused : UnusedText → Level
-level_of_unused (OfAccept line) = Warning
+level_of_unused (OfAccept line) = unused_row.level
 level_of_unused (OfFacts line name) = Note
 
 -- ---- rows of the facts file
@@ -65,7 +72,7 @@ modules_met files there =
 abbrev pub idle_named : List (List ℕ) → ℕ → List ℕ → Option UnusedText
 idle_named met line name =
     if list_any (bytes_eq name) met then None
-    else Some (OfFacts line (record { of = []; word = name; nearest = nearest (take MAX_NAMES met) name; leads_nowhere = false; spot = None }))
+    else Some (OfFacts line (record { of = []; word = name; nearest = nearest (take MAX_NAMES met) name; is_certain = false; leads_nowhere = false; spot = None }))
 
 -- the same of a numbered line
 abbrev pub idle_at : List (List ℕ) → ℕ × List ℕ → Option UnusedText

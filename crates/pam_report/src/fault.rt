@@ -4,7 +4,6 @@ ghost use Rattle.std.specs.Prelude.{◌≡◌, ◌++◌, ◌≤◌, IfOk, OnOk, 
 ghost use Rattle.pam_codes.specs.Line.{line_text, piece_text};
 ghost use Rattle.pam_report.specs.Fault as spec;
 ghost use Rattle.pam_report.specs.Fault.{IsNumbered};
-ghost use Rattle.pam_report.specs.FaultTable.{conf_row as conf_fault_row, table_row as table_fault_row, time_row as time_fault_row};
 ghost use Rattle.pam_report.specs.inner.FaultViews.{row_view};
 
 mod keys;
@@ -21,14 +20,13 @@ mod unread;
 use crate::inputs::InputError;
 pub use mistakes::mistaken_text;
 use pam_codes::Piece;
-use pam_conf::{ConfError, FaultKind, Files};
+use pam_conf::{ConfError, Files};
 use pam_dispatch::WrongCount;
 use pam_facts::known::{KnownError, NumberedError};
 use pam_facts::{FactsError, FactsFault};
 use pam_findings::accepted::AcceptError;
 use pam_paths::CursorError;
-use pam_tables::TableFault;
-use pam_tables::times::{MomentError, TimeError, TimeFault};
+use pam_tables::times::{MomentError, TimeError};
 use pam_words::Usage;
 use place::{accept_file, conf_file, facts_file, policy_file, table_file, time_file};
 pub use policies::PolicyFileError;
@@ -309,27 +307,6 @@ pub fn fault_text(alloc: Global, fault: &Fault, files: &Files) -> Result<Vec<u8>
         | Fault::Device
         | Fault::Memory => line(alloc, row, &[]),
     }
-}
-
-/// Returns the number and the name of a fault of the configuration, as `E15 NoService`.
-pub fn conf_name(kind: FaultKind) -> &'static str
-    ensures { result.now ≡ (conf_fault_row kind).name }
-{
-    conf_row(kind).name
-}
-
-/// Returns the number and the name of a fault of a group file or an access table, as `TE2 BadPermission`.
-pub(crate) fn table_fault_name(fault: TableFault) -> &'static str
-    ensures { result.now ≡ (table_fault_row fault).name }
-{
-    table_row(fault).name
-}
-
-/// Returns the number and the name of a fault of a time table, as `TE6 BadTimes`.
-pub(crate) fn time_fault_name(fault: TimeFault) -> &'static str
-    ensures { result.now ≡ (time_fault_row fault).name }
-{
-    time_row(fault).name
 }
 
 /// Returns the exit status of a fault.

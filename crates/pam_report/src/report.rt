@@ -58,7 +58,7 @@ use pam_conf::{Files, Form, Kind};
 use pam_words::{KnowledgeSource, Request, Task};
 pub use paths::PathsPage;
 use paths::{PageRequest, answer_paths};
-pub use policy::{JudgedPolicy, PolicyReply, policy_level};
+pub use policy::{JudgedPolicy, PolicyReply, policy_level, policy_name, policy_number, policy_row};
 use policy::{PolicyRequest, answer_policy};
 pub use released::ReleasedReply;
 pub use renderer::PageRenderer;
@@ -69,7 +69,7 @@ use show::{ShowRequest, shown_by};
 use std::alloc::Global;
 use time::{answer_time, given_moment, moment_of};
 pub use trace::{AskedModule, Trace, path_at};
-pub use unused::UnusedLine;
+pub use unused::{UnusedLine, unused_row};
 
 /// How a request was answered, which gives the exit status.
 #[derive(Clone, Copy, Debug, PartialEq, Eq)]

@@ -58,7 +58,7 @@ fn mending_of(meant: Meant) -> &'static str
         Meant::Kind => "write auth, account, password or session",
         Meant::Code => "write one as success",
         Meant::Drawing => "write dot, mermaid or svg",
-        Meant::Form => "write short, full, json or sarif",
+        Meant::Form => "write short, full, json, sarif or patch",
         Meant::Level => "write error, warning or note",
         Meant::Answers => "write any or possible",
         Meant::Setting => "write one as pam_unix.so=success",
@@ -195,7 +195,7 @@ fn nearest_drawing(word: &[u8]) -> Option<&'static [u8]>
 fn nearest_form(word: &[u8]) -> Option<&'static [u8]>
     ensures { option_map (λ w. w.now) result ≡ nearest (spec.right_words meant.Form) word.now }
 {
-    let words: [&[u8]; 4] = [b"short", b"full", b"json", b"sarif"];
+    let words: [&[u8]; 5] = [b"short", b"full", b"json", b"sarif", b"patch"];
     nearest(&words, word)
 }
 

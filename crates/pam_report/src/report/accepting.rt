@@ -9,14 +9,14 @@ ghost use Rattle.pam_report.specs.TablePaths.{table_paths_view};
 
 use super::table_keys::problems_of;
 use crate::fault::push_pieces;
-use crate::names::{kind_name, problem_name, stack_of};
+use crate::names::{kind_name, stack_of};
 use crate::tables::TablePaths;
 use pam_codes::Piece;
 use pam_conf::{Files, Kind, NameList};
 use pam_findings::accepted::AcceptFile;
 use pam_findings::host::{Finding, HostReport, Place};
 use pam_findings::tables::{TableFinding, TableReport};
-use pam_text::{Texts, cut};
+use pam_text::Texts;
 use std::alloc::{AllocError, Global};
 use std::collections::BTreeMap;
 
@@ -26,16 +26,6 @@ pub(super) struct Listed {
     pub(super) found: Vec<(Place, Finding)>,
     pub(super) tables: Vec<TableFinding>,
     pub(super) unused: Vec<u32>,
-}
-
-/// Returns what is before the blank of a number and a name.
-pub(super) fn number_in(name: &[u8]) -> &[u8]
-    ensures { result.now ≡ spec.number_in name.now }
-{
-    match cut(name, b' ') {
-        Some((number, _)) => number,
-        None => name,
-    }
 }
 
 /// Appends ` FILE:LINE`, or ` FILE` for line 0.
@@ -142,7 +132,7 @@ impl Keys<(Place, Finding)> for Names<'_> {
     #[tactic(auto, unfolding(crate::specs::Accepting::key_of))]
     fn key(&self, alloc: Global, found: &(Place, Finding)) -> Result<Vec<u8>, AllocError> {
         let problem = found.1.problem;
-        let mut key = Vec::from_slice(alloc, number_in(problem_name(problem).as_bytes()))?;
+        let mut key = Vec::from_slice(alloc, problem.row().number.as_bytes())?;
         match stack_of(problem) {
             Some((service, kind)) => {
                 let name = self.stack(found.0.file, service);

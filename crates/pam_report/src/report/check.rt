@@ -27,7 +27,7 @@ use crate::fault::{Fault, accept_fault, facts_fault};
 use crate::inputs::Inputs;
 use crate::left::services_left;
 use crate::services::require_asked;
-use crate::tables::{TablePaths, table_problem_level};
+use crate::tables::TablePaths;
 use pam_conf::{Files, Form};
 use pam_facts::Facts;
 use pam_findings::accepted::AcceptFile;
@@ -101,7 +101,9 @@ fn has_counting(found: &[(Place, Finding)], fail_on: LevelName) -> bool
 fn has_counting_table(tables: &[TableFinding], fail_on: LevelName) -> bool
     ensures { result ≡ has_counting_table fail_on tables.now }
 {
-    tables.iter().any(|finding| counts(fail_on, table_problem_level(finding.problem)))
+    tables
+        .iter()
+        .any(|finding| counts(fail_on, finding.problem.level()))
 }
 
 /// Whether some line that says nothing counts.

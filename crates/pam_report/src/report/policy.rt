@@ -2,9 +2,10 @@
 
 ghost use Rattle.std.specs.Prelude.{◌≡◌, ◌||◌, if◌then◌else◌};
 ghost use Rattle.std.specs.List.{list_any};
+ghost use Rattle.pam_explain.specs.Views.{explanation_view};
 ghost use Rattle.pam_policy.specs.host.Findings.{finding_view, not_known, not_upheld, of_argument, of_name, saying_nothing};
 ghost use Rattle.pam_policy.specs.names.Words.{misnamed_view};
-ghost use Rattle.pam_report.specs.PolicyLevels.{policy_level as level_of, level_of_word};
+ghost use Rattle.pam_report.specs.PolicyLevels.{level_of_word, policy_level as level_of, policy_row as row_of, row_of_word};
 ghost use Rattle.pam_report.specs.Reply.{any_counts, has_counting_report, has_counting_rule, policy_status};
 ghost use Rattle.pam_report.specs.ReplyViews.{policy_view};
 ghost use Rattle.pam_report.specs.declared.report.Status.TheVariants.{Refusal as Refused, Success};
@@ -19,7 +20,7 @@ use super::Status;
 use super::check::counts;
 pub(super) use answering::{PolicyRequest, answer_policy};
 use pam_conf::Files;
-use pam_findings::host::Level;
+use pam_explain::{Explanation, Level, policies};
 use pam_policy::host::{ClassReport, Finding, HostStacks, Idle, RuleReport};
 use pam_policy::names::Misnamed;
 use pam_policy::rules::Verdict;
@@ -47,24 +48,54 @@ pub struct PolicyReply<'a> {
     pub fail_on: LevelName,
 }
 
+fn row_of_word(word: &Misnamed) -> &'static Explanation
+    ensures { explanation_view result.now ≡ row_of_word (misnamed_view word.now) }
+{
+    match word {
+        Misnamed::NoService(_) | Misnamed::FitsNone => &policies::NO_SERVICE_FITS,
+        Misnamed::NoModule(_) => &policies::NO_MODULE_FITS,
+        Misnamed::NoArgument(_) => &policies::NO_ARGUMENT,
+    }
+}
+
+/// Returns the row of a finding of a policy.
+pub fn policy_row(finding: &Finding<'_>) -> &'static Explanation
+    ensures { explanation_view result.now ≡ row_of (finding_view finding.now) }
+{
+    match finding {
+        Finding::Broken(_, _) => &policies::BROKEN,
+        Finding::Impossible(_) => &policies::IMPOSSIBLE,
+        Finding::Misnamed(word) => row_of_word(word),
+        Finding::SaysNothing(_) => &policies::IDLE,
+        Finding::NotKnown(_) => &policies::NOT_KNOWN,
+    }
+}
+
+/// Returns the number of a finding of a policy, as `P1`.
+pub fn policy_number(finding: &Finding<'_>) -> &'static str
+    ensures { result.now ≡ (row_of (finding_view finding.now)).number }
+{
+    policy_row(finding).number
+}
+
+/// Returns the name of a finding of a policy, as `Broken`.
+pub fn policy_name(finding: &Finding<'_>) -> &'static str
+    ensures { result.now ≡ (row_of (finding_view finding.now)).name }
+{
+    policy_row(finding).name
+}
+
 fn level_of_word(word: &Misnamed) -> Level
     ensures { result ≡ level_of_word (misnamed_view word.now) }
 {
-    match word {
-        Misnamed::NoArgument(_) => Level::Warning,
-        Misnamed::NoService(_) | Misnamed::FitsNone | Misnamed::NoModule(_) => Level::Error,
-    }
+    row_of_word(word).level
 }
 
 /// Returns how grave a finding of a policy is.
 pub fn policy_level(finding: &Finding<'_>) -> Level
     ensures { result ≡ level_of (finding_view finding.now) }
 {
-    match finding {
-        Finding::Broken(_, _) | Finding::Impossible(_) | Finding::NotKnown(_) => Level::Error,
-        Finding::Misnamed(word) => level_of_word(word),
-        Finding::SaysNothing(_) => Level::Warning,
-    }
+    policy_row(finding).level
 }
 
 /// Whether what is found of a class counts.

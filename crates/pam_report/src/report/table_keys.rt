@@ -3,8 +3,8 @@
 ghost use Rattle.std.specs.Prelude.{◌≡◌, IfOk};
 ghost use Rattle.pam_report.specs.Accepting as spec;
 
-use super::accepting::{Keys, number_in, push_line};
-use crate::tables::{TablePaths, table_problem_name};
+use super::accepting::{Keys, push_line};
+use crate::tables::TablePaths;
 use pam_facts::known::name_of_path;
 use pam_findings::tables::{TableFinding, TablePlace};
 use std::alloc::{AllocError, Global};
@@ -19,7 +19,7 @@ impl Keys<TableFinding> for TablePaths<'_> {
     /// Returns the key of a problem: its number, and the name of the table's file with the line.
     #[tactic(auto, unfolding(crate::specs::Accepting::table_key_of))]
     fn key(&self, alloc: Global, found: &TableFinding) -> Result<Vec<u8>, AllocError> {
-        let number = number_in(table_problem_name(found.problem).as_bytes());
+        let number = found.problem.row().number.as_bytes();
         let mut key = Vec::from_slice(alloc, number)?;
         let name = name_of_path(self.of(found.table, found.number));
         push_line(&mut key, name, found.line as usize)?;

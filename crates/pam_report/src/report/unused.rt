@@ -3,6 +3,7 @@
 ghost use Rattle.std.specs.Prelude.{◌≡◌, ◌≤◌, ◌∷◌, ◌++◌, [], IfOk, OnOk, Some, filter_map, length, map, not, take};
 ghost use Rattle.std.specs.List.{prefix_len};
 ghost use Rattle.std.specs.Option.{option_map};
+ghost use Rattle.pam_explain.specs.Views.{explanation_view};
 ghost use Rattle.pam_facts.specs.Paths.{module_name as spec_module_name};
 ghost use Rattle.pam_policy.specs.names.Host.{call_view};
 ghost use Rattle.pam_report.specs.Unused as spec;
@@ -10,8 +11,8 @@ ghost use Rattle.pam_report.specs.Unused.{unused_view};
 ghost use Rattle.pam_text.specs.Blanks.{is_table_blank};
 
 use pam_conf::{Files, NameList, RuleFiles};
+use pam_explain::{Explanation, Level, hosts};
 use pam_facts::module_name;
-use pam_findings::host::Level;
 use pam_findings::misspelled::{MAX_NAMES, Misspelled};
 use pam_policy::names::{Call, calls_in};
 use pam_spelling::nearest;
@@ -48,15 +49,22 @@ impl UnusedLine {
         }
     }
 
-    /// Returns how grave it is. A facts file may be that of many hosts.
+    /// Returns how grave it is: as its row says, but a facts file may be that of many hosts.
     pub fn level(&self) -> Level
         ensures { result ≡ spec.level_of_unused (unused_view self.now) }
     {
         match self {
-            UnusedLine::OfAccept(_) => Level::Warning,
+            UnusedLine::OfAccept(_) => unused_row().level,
             UnusedLine::OfFacts(_, _) => Level::Note,
         }
     }
+}
+
+/// Returns the row of such a line.
+pub fn unused_row() -> &'static Explanation
+    ensures { explanation_view result.now ≡ spec.unused_row }
+{
+    &hosts::UNUSED_LINE
 }
 
 fn blank_len(line: &[u8]) -> usize
@@ -198,6 +206,7 @@ fn idle_named(
             module: Vec::new(alloc),
             word: Vec::from_slice(alloc, name)?,
             nearest,
+            is_certain: false,
             leads_nowhere: false,
             spot: None,
         },
