@@ -1,0 +1,6 @@
+pub mod Check
+pub mod Hunk
+pub mod Laws
+pub mod Mended
+pub mod Mendings
+pub mod inner
