@@ -4,3 +4,4 @@ pub mod Findings
 pub mod LineLaws
 pub mod Repeats
 pub mod ShownCells
+pub mod Witness

@@ -6,5 +6,7 @@ mod document;
 mod excerpt;
 pub mod laws;
 mod window;
+mod witness;
 
 pub use document::write_full;
+pub(crate) use window::{bytes_after, first_bytes};

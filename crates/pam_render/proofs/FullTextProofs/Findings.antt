@@ -7,6 +7,7 @@ use Rattle.pam_findings.specs.misspelled.Misspelled.{MisspelledText}
 use Rattle.pam_findings.specs.declared.misspelled.spot.Spot.{Spot}
 use Rattle.pam_render.specs.full_text.Check.{bytes_there, found_full, full_finding, full_findings, numbered_full}
 use Rattle.pam_render.specs.full_text.Excerpt.{excerpt}
+use Rattle.pam_render.specs.full_text.Witness.{witness}
 use Rattle.pam_render.specs.parts.Check.{Names, spot_of, told_line, word_at}
 use Rattle.pam_render.specs.text.Check.{finding_line}
 use Rattle.pam_report.specs.Reply.{CheckValue}
@@ -14,7 +15,8 @@ use Rattle.pam_report.specs.Reply.{CheckValue}
 -- a finding, by the bytes of its file and the line that is told
 pub finding-is : (names : Names) (files : Folder) (outside : List Bool) (entry : Place × Finding) (word : Option MisspelledText) (spot : Option Spot)
     (number : ℕ) (bytes : List ℕ) → spot ≡ spot_of word → number ≡ told_line entry.0.line spot → bytes ≡ bytes_there files outside entry.0 spot
-    → finding_line names entry word ++ excerpt number bytes spot ≡ full_finding names files outside entry word
+    → finding_line names entry word ++ (excerpt number bytes spot ++ witness names entry.1.met entry.1.problem)
+    ≡ full_finding names files outside entry word
 finding-is names files outside entry word spot number bytes s n b = rw (n, b, s) refl
 
 -- those of a check, by equal lists

@@ -11,6 +11,7 @@ use Rattle.pam_findings.specs.misspelled.Spots.{after_feeds, from_line}
 use Rattle.pam_findings.specs.declared.misspelled.spot.Spot.{Spot}
 use Rattle.pam_paths.specs.declared.cursor.CursorError.{CursorError}
 use Rattle.pam_render.specs.full_text.Excerpt.{excerpt}
+use Rattle.pam_render.specs.full_text.Witness.{witness}
 use Rattle.pam_render.specs.parts.Check.{Names, names_of_value, spot_of, told_line, word_at}
 use Rattle.pam_render.specs.parts.Findings.{rest_lines}
 use Rattle.pam_render.specs.text.Check.{finding_line, line_text}
@@ -28,11 +29,12 @@ bytes_from files outside place = if is_untold outside place then [] else from_li
 abbrev pub bytes_there : Folder → List Bool → Place → Option Spot → List ℕ
 bytes_there files outside place spot = after_feeds (told_line place.line spot - place.line) (bytes_from files outside place)
 
--- A FINDING: its line, and that of its file
+-- A FINDING: its line, that of its file, and the modules of a way in
 abbrev pub full_finding : Names → Folder → List Bool → Place × Finding → Option MisspelledText → List ℕ
 full_finding names files outside entry word =
     finding_line names entry word
-    ++ excerpt (told_line entry.0.line (spot_of word)) (bytes_there files outside entry.0 (spot_of word)) (spot_of word)
+    ++ (excerpt (told_line entry.0.line (spot_of word)) (bytes_there files outside entry.0 (spot_of word)) (spot_of word)
+    ++ witness names entry.1.met entry.1.problem)
 
 abbrev pub numbered_full : Names → Folder → List Bool → List (Option MisspelledText) → ℕ × (Place × Finding) → List ℕ
 numbered_full names files outside words entry = full_finding names files outside entry.1 (word_at words entry.0)

@@ -1,2 +1,3 @@
 -- What no public contract cites.
 pub mod Views
+pub mod Witness

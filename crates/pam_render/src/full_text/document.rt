@@ -12,6 +12,7 @@ ghost use Rattle.pam_report.specs.ReplyViews.{check_view};
 ghost use Rattle.pam_text.specs.Out.{Writes, WritesAndFlushes};
 
 use crate::full_text::excerpt::put_excerpt;
+use crate::full_text::witness::put_witness;
 use crate::parts::{
     CheckLine, CheckLines, FoundProblem, Names, names_of, put_rest, spot_of, told_line,
     with_write_fault, word_at,
@@ -62,7 +63,7 @@ fn bytes_there<'a>(
     after_feeds(lines, bytes_from(cursor, outside, place))
 }
 
-/// Writes the line of a finding, and that of its file.
+/// Writes the line of a finding, that of its file, and the modules of a way in.
 fn put_full<W: Write>(
     names: &Names<'_>,
     cursor: &mut Cursor<'_>,
@@ -81,7 +82,8 @@ fn put_full<W: Write>(
     let spot = spot_of(word);
     let bytes = bytes_there(cursor, outside, place, spot);
     AsText.put_line(CheckLine::Found(FoundProblem { names, entry, word }), out)?;
-    put_excerpt(told_line(place.line, spot), bytes, spot, out)
+    put_excerpt(told_line(place.line, spot), bytes, spot, out)?;
+    put_witness(names, entry.1, out)
 }
 
 /// Writes the findings, each with the word that is wrong at its position.

@@ -1,6 +1,6 @@
 //! The line of a file that a finding is about, with its number before it and carets below the word.
 
-ghost use Rattle.std.specs.Prelude.{◌≡◌, ◌++◌, Some, codes, decimal, length, replicate};
+ghost use Rattle.std.specs.Prelude.{◌≡◌, ◌<◌, ◌^◌, ◌++◌, Some, codes, decimal, length, replicate};
 ghost use Rattle.std.specs.List.{flat_map};
 ghost use Rattle.pam_codes.specs.Out.{Writes};
 ghost use Rattle.pam_render.specs.full_text.Excerpt.{caret_line, carets_if_any, excerpt, line_lines, start_of};
@@ -15,7 +15,7 @@ use std::io::Write;
 
 /// A part of a line.
 #[derive(Clone, Copy)]
-enum Part<'x> {
+pub(super) enum Part<'x> {
     Text(&'x [u8]),
     Number(u64),
     Repeated(usize, u8),
@@ -44,7 +44,7 @@ fn put_part<W: Write>(part: &Part<'_>, out: &mut Out<W>) -> Result<(), Device>
 }
 
 /// Writes parts in turn.
-fn put_parts<W: Write>(parts: &[Part<'_>], out: &mut Out<W>) -> Result<(), Device>
+pub(super) fn put_parts<W: Write>(parts: &[Part<'_>], out: &mut Out<W>) -> Result<(), Device>
     ensures { Writes W.contents out.old out.new result (flat_map part_text parts.now) }
 {
     for part in parts {
@@ -53,8 +53,9 @@ fn put_parts<W: Write>(parts: &[Part<'_>], out: &mut Out<W>) -> Result<(), Devic
     Ok(())
 }
 
-fn digits(number: u64) -> usize
-    ensures { result ≡ length (decimal number) }
+pub(super) fn digits(number: u64) -> usize
+    ensures value { result ≡ length (decimal number) }
+    ensures bound { result < 2 ^ 63 }
 {
     let mut buffer = Buffer::new();
     buffer.format(number).len()

@@ -26,7 +26,7 @@ pub(super) struct Window<'x> {
 }
 
 /// The first bytes, all if there are no more than these.
-fn first_bytes(count: usize, bytes: &[u8]) -> &[u8]
+pub(crate) fn first_bytes(count: usize, bytes: &[u8]) -> &[u8]
     ensures value { result.now ≡ take count bytes.now }
     ensures bound { length result.now ≤ count }
 {
@@ -38,7 +38,7 @@ fn first_bytes(count: usize, bytes: &[u8]) -> &[u8]
 }
 
 /// The bytes after the first ones, none if there are no more than these.
-fn bytes_after(count: usize, bytes: &[u8]) -> &[u8]
+pub(crate) fn bytes_after(count: usize, bytes: &[u8]) -> &[u8]
     ensures { result.now ≡ drop count bytes.now }
 {
     if count < bytes.len() {
