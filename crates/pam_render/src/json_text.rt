@@ -16,5 +16,4 @@ mod steps;
 mod tables;
 
 pub(crate) use check::FindingValue;
-pub(crate) use header::number_in;
 pub use printing::print_if_any;

@@ -7,3 +7,4 @@ mod results;
 mod rules;
 
 pub use document::write_sarif;
+pub use location::put_uri;

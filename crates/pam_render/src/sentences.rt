@@ -18,7 +18,7 @@ pub use faults::{Naming, dead_naming, naming_of, plain_sentence};
 pub use modules::{UNTOLD_MODULE, naming_of_module};
 pub use needs::{events_in, put_needed_rule};
 pub use phrase::{Phrase, Phrases, put_phrases};
-pub use policy::{policy_finding_name, put_policy_said};
+pub use policy::put_policy_said;
 pub use problems::{
     UNUSED, argument_naming, idle_naming, level_name, problem_sentence, put_said, put_unused_said,
 };

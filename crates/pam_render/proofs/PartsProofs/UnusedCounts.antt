@@ -2,7 +2,7 @@
 use Rattle.std.proofs.Common.{◌≡◌, ◌+◌, ℕ, List, cond, map, sym}
 use Rattle.std.proofs.lemmas.List.Folds.{fold-map}
 use Rattle.std.specs.Prelude.{count_by}
-use Rattle.pam_findings.specs.declared.host.level.Level.{Level}
+use Rattle.pam_explain.specs.declared.explanation.Level.{Level}
 use Rattle.pam_render.specs.parts.Check.{is_level, unused_number_at}
 use Rattle.pam_report.specs.Unused.{UnusedText, level_of_unused, unused_view}
 use Rattle.pam_report.specs.declared.report.unused.UnusedLine.{UnusedLine}

@@ -13,7 +13,8 @@ use Rattle.pam_policy.specs.declared.search.run.Step.{Step}
 use Rattle.pam_policy.specs.names.Words.{ArgumentText, WordText}
 use Rattle.pam_policy.specs.search.Runs.{RunValue}
 use Rattle.pam_report.specs.Fault.{file_at}
-use Rattle.pam_report.specs.FaultTable.{conf_row}
+use Rattle.pam_findings.specs.host.Rows.{row_of}
+use Rattle.pam_findings.specs.declared.host.problem.Problem.TheVariants.{Fault}
 use Rattle.pam_report.specs.Names.{kind_name}
 use Rattle.pam_text.proofs.FlatTexts.{flat_map-seen}
 use Rattle.pam_render.specs.sentences.Phrases.{Phrase, Name, Said}
@@ -62,13 +63,15 @@ module _ (text : Phrase → List ℕ) where
       ∷ []) (asked_phrases class.stack run.steps))
 
   -- the fault of a stack, and its place
-  pub fault-is : (files : Folder) (fault : ConfError) (name : List ℕ) (file : Option (List ℕ)) → name ≡ (conf_row fault.kind).name
-      → file ≡ file_at files fault.at
-      → flat_map text (Said (codes "the stack is refused, ") ∷ Said name ∷ []) ++ flat_map text (place_phrases file fault.line)
-      ≡ flat_map text (fault_phrases files fault)
-  fault-is files fault name file e f =
-      rw (e, f)
-      (two-parts (Said (codes "the stack is refused, ") ∷ Said (conf_row fault.kind).name ∷ []) (place_phrases (file_at files fault.at) fault.line))
+  pub fault-is : (files : Folder) (fault : ConfError) (number name : List ℕ) (file : Option (List ℕ)) → number ≡ (row_of (Fault fault.kind)).number
+      → name ≡ (row_of (Fault fault.kind)).name → file ≡ file_at files fault.at
+      → flat_map text (Said (codes "the stack is refused, ") ∷ Said number ∷ Said (codes " ") ∷ Said name ∷ [])
+      ++ flat_map text (place_phrases file fault.line) ≡ flat_map text (fault_phrases files fault)
+  fault-is files fault number name file e f h =
+      let row = row_of (Fault fault.kind) in
+      rw (e, f, h)
+      (two-parts (Said (codes "the stack is refused, ") ∷ Said row.number ∷ Said (codes " ") ∷ Said row.name ∷ [])
+      (place_phrases (file_at files fault.at) fault.line))
 
   -- why a rule is not known to hold
   pub not_known-is : (files : Folder) (rule : List ℕ) (class : StackClass)

@@ -5,6 +5,7 @@ use Rattle.std.specs.List.{concat, flat_map}
 use Rattle.pam_codes.specs.SetText.{name_of}
 use Rattle.pam_conf.specs.Stack.{Items}
 use Rattle.pam_findings.specs.host.Levels.{level_of}
+use Rattle.pam_findings.specs.host.Rows.{row_of}
 use Rattle.pam_findings.specs.declared.host.problem.Place.{Place}
 use Rattle.pam_findings.specs.declared.host.report.Finding.{Finding}
 use Rattle.pam_findings.specs.declared.host.way_in.Answered.{Answered}
@@ -12,11 +13,9 @@ use Rattle.pam_facts.specs.known.Answers.{name_of_path}
 use Rattle.pam_findings.specs.misspelled.Misspelled.{MisspelledText}
 use Rattle.pam_findings.specs.declared.misspelled.spot.Spot.{Spot}
 use Rattle.pam_report.specs.Decide.{path_at}
-use Rattle.pam_report.specs.Names.{problem_name}
-use Rattle.pam_render.specs.text.Check.{answer_text, answers_text, finding_line, next_answer, place_text, sentence}
+use Rattle.pam_render.specs.text.Check.{answer_text, answers_text, finding_line, heading_text, next_answer, place_text, sentence}
 use Rattle.pam_render.specs.parts.Check.{Names, spot_of}
 use Rattle.pam_render.specs.sentences.Shown.{shown_name}
-use Rattle.pam_render.specs.sentences.Sentences as say
 
 -- THE ANSWERS OF A WAY IN
 
@@ -37,15 +36,13 @@ answers_text-is items all first others e = rw e refl
 
 -- THE LINE
 
--- a line, whose level and name are written together
-line_parts : (place level name said : List ℕ) → ((place ++ concat (level ∷ codes ": " ∷ name ∷ codes ": " ∷ [])) ++ said) ++ codes "\n"
-    ≡ place ++ level ++ codes ": " ++ name ++ codes ": " ++ said ++ codes "\n"
-line_parts place level name said = simp (append_assoc, append-nil)
+line_parts : (place heading said : List ℕ) → ((place ++ heading) ++ said) ++ codes "\n" ≡ place ++ heading ++ said ++ codes "\n"
+line_parts place heading said = simp (append_assoc)
 
-pub finding_line-is : (names : Names) (place : Place) (finding : Finding) (word : Option MisspelledText) (spot : Option Spot) (level name : List ℕ)
-    → spot ≡ spot_of word → level ≡ say.level_name (level_of finding.problem) → name ≡ problem_name finding.problem
-    → ((place_text names.paths place spot ++ concat (level ∷ codes ": " ∷ name ∷ codes ": " ∷ []))
+pub finding_line-is : (names : Names) (place : Place) (finding : Finding) (word : Option MisspelledText) (spot : Option Spot) → spot ≡ spot_of word
+    → ((place_text names.paths place spot ++ heading_text (level_of finding.problem) (row_of finding.problem))
     ++ sentence names place finding.met finding.problem word) ++ codes "\n" ≡ finding_line names (place, finding) word
 unfolding finding_line
-finding_line-is names place finding word spot level name s e f =
-    line_parts (place_text names.paths place spot) level name (sentence names place finding.met finding.problem word) ∙ rw (s, e, f) refl
+finding_line-is names place finding word spot s =
+    line_parts (place_text names.paths place spot) (heading_text (level_of finding.problem) (row_of finding.problem))
+    (sentence names place finding.met finding.problem word) ∙ rw s refl

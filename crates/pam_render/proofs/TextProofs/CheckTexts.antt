@@ -2,12 +2,12 @@
 use Rattle.std.proofs.Common.{◌≡◌, ◌∙◌, ℕ, List, [], ◌∷◌, ◌++◌, append-nil, append_assoc, codes, refl}
 use Rattle.std.specs.List.{concat}
 use Rattle.std.specs.Prelude.{decimal}
-use Rattle.pam_report.specs.TablePaths.{level_of_table_problem, table_problem_name}
-use Rattle.pam_findings.specs.declared.tables.problem.TableFinding.{TableFinding}
+use Rattle.pam_explain.specs.declared.explanation.Level.{Level}
+use Rattle.pam_explain.specs.Explanation.{Explanation}
 use Rattle.pam_text.proofs.TextSteps.{unequal}
 use Rattle.pam_render.specs.text.Check.{checked_line, counted, levels_text}
-use Rattle.pam_render.specs.text.Check.{table_heading, unused_heading}
-use Rattle.pam_report.specs.Unused.{UnusedText, level_of_unused, number_of_unused}
+use Rattle.pam_render.specs.text.Check.{heading_text, unused_heading}
+use Rattle.pam_report.specs.Unused.{UnusedText, level_of_unused, number_of_unused, unused_row}
 use Rattle.pam_render.specs.declared.parts.check.Counts.{Counts}
 use Rattle.pam_render.specs.sentences.Sentences as say
 
@@ -26,20 +26,21 @@ checked_line-is count name stacks counts = refl
 
 -- LINES THAT SAY NOTHING
 
-unused_parts : (line colon level name : List ℕ)
-    → concat (codes ":" ∷ line ∷ colon ∷ level ∷ name ∷ []) ≡ codes ":" ++ line ++ colon ++ level ++ name
-unused_parts line colon level name = simp (append_assoc, append-nil)
+unused_parts : (line heading : List ℕ) → concat (codes ":" ∷ line ∷ codes ": " ∷ []) ++ heading ≡ codes ":" ++ line ++ codes ": " ++ heading
+unused_parts line heading = simp (append_assoc, append-nil)
 
-pub unused_heading-is : (unused : UnusedText) (number : ℕ) (level : List ℕ) → number ≡ number_of_unused unused
-    → level ≡ say.level_name (level_of_unused unused)
-    → concat (codes ":" ∷ decimal number ∷ codes ": " ∷ level ∷ codes ": S8 UnusedLine: " ∷ []) ≡ unused_heading unused
-unused_heading-is unused number level e f = unused_parts (decimal number) (codes ": ") level (codes ": S8 UnusedLine: ") ∙ rw (e, f) refl
+pub unused_heading-is : (unused : UnusedText) (number : ℕ) (level : Level) (row : Explanation) → number ≡ number_of_unused unused
+    → level ≡ level_of_unused unused → row ≡ unused_row
+    → concat (codes ":" ∷ decimal number ∷ codes ": " ∷ []) ++ heading_text level row ≡ unused_heading unused
+unused_heading-is unused number level row e f h = unused_parts (decimal number) (heading_text level row) ∙ rw (e, f, h) refl
 
--- LINES FOR PROBLEMS OF TABLES
+-- HEADINGS
 
-four_parts : (level name colon : List ℕ) → concat (level ∷ colon ∷ name ∷ colon ∷ []) ≡ level ++ colon ++ name ++ colon
-four_parts level name colon = simp (append_assoc, append-nil)
+heading_parts : (level number name : List ℕ)
+    → concat (level ∷ codes ": " ∷ number ∷ codes " " ∷ name ∷ codes ": " ∷ []) ≡ level ++ codes ": " ++ number ++ codes " " ++ name ++ codes ": "
+heading_parts level number name = simp (append_assoc, append-nil)
 
-pub heading-is : (finding : TableFinding) (level name : List ℕ) → level ≡ say.level_name (level_of_table_problem finding.problem)
-    → name ≡ table_problem_name finding.problem → concat (level ∷ codes ": " ∷ name ∷ codes ": " ∷ []) ≡ table_heading finding
-heading-is finding level name e f = four_parts level name (codes ": ") ∙ rw (e, f) refl
+pub heading-is : (level : Level) (row : Explanation) (of_level number name : List ℕ) → of_level ≡ say.level_name level → number ≡ row.number
+    → name ≡ row.name → concat (of_level ∷ codes ": " ∷ number ∷ codes " " ∷ name ∷ codes ": " ∷ []) ≡ heading_text level row
+unfolding heading_text
+heading-is level row of_level number name e f h = heading_parts of_level number name ∙ rw (e, f, h) refl

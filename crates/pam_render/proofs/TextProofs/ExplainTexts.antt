@@ -5,14 +5,15 @@ use Rattle.std.specs.List.{concat, flat_map}
 use Rattle.pam_explain.specs.Explanation.{Explanation}
 use Rattle.pam_words.specs.Words.{version}
 use Rattle.pam_render.specs.text.About.{version_text}
-use Rattle.pam_render.specs.text.Explain.{example_line, example_text, head_text, level_text, lines_of, rest_text, row_text}
+use Rattle.pam_render.specs.sentences.Sentences.{level_name}
+use Rattle.pam_render.specs.text.Explain.{example_line, example_text, head_text, lines_of, rest_text, row_text}
 
 head_parts : (number name level meaning : List ℕ)
     → concat (number ∷ codes " " ∷ name ∷ codes " (" ∷ level ∷ codes ")\n" ∷ meaning ∷ codes "\n" ∷ [])
     ≡ number ++ codes " " ++ name ++ codes " (" ++ level ++ codes ")\n" ++ meaning ++ codes "\n"
 head_parts number name level meaning = simp (append_assoc, append-nil)
 
-pub head-is : (e : Explanation) (number name level meaning : List ℕ) → number ≡ e.number → name ≡ e.name → level ≡ level_text e.level → meaning ≡ e.meaning
+pub head-is : (e : Explanation) (number name level meaning : List ℕ) → number ≡ e.number → name ≡ e.name → level ≡ level_name e.level → meaning ≡ e.meaning
     → concat (number ∷ codes " " ∷ name ∷ codes " (" ∷ level ∷ codes ")\n" ∷ meaning ∷ codes "\n" ∷ []) ≡ head_text e
 unfolding head_text
 head-is e number name level meaning a b c d = head_parts number name level meaning ∙ rw (a, b, c, d) refl
@@ -30,7 +31,7 @@ row_parts : (number name level : List ℕ)
     → concat (number ∷ codes " " ∷ name ∷ codes " " ∷ level ∷ codes "\n" ∷ []) ≡ number ++ codes " " ++ name ++ codes " " ++ level ++ codes "\n"
 row_parts number name level = simp (append_assoc, append-nil)
 
-pub row-is : (e : Explanation) (number name level : List ℕ) → number ≡ e.number → name ≡ e.name → level ≡ level_text e.level
+pub row-is : (e : Explanation) (number name level : List ℕ) → number ≡ e.number → name ≡ e.name → level ≡ level_name e.level
     → concat (number ∷ codes " " ∷ name ∷ codes " " ∷ level ∷ codes "\n" ∷ []) ≡ row_text e
 unfolding row_text
 row-is e number name level a b c = row_parts number name level ∙ rw (a, b, c) refl

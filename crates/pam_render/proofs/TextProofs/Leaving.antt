@@ -24,16 +24,17 @@ use Rattle.pam_report.specs.declared.fault.Fault.TheVariants as faults
 use Rattle.pam_report.specs.declared.inputs.Inputs.{Inputs}
 use Rattle.pam_report.specs.declared.report.Status.{Status}
 use Rattle.pam_report.specs.declared.report.replies.Reply as declared
-use Rattle.pam_words.specs.declared.wanted.OutputForm.TheVariants.{Full, Json, Sarif}
+use Rattle.pam_words.specs.declared.wanted.OutputForm.TheVariants.{Full, Json, Patch, Sarif}
 use Rattle.pam_words.specs.declared.wanted.ReleaseName.{ReleaseName}
 use Rattle.pam_words.specs.declared.wanted.Task.{Task}
 use Rattle.pam_words.specs.declared.wanted.Task.TheVariants.{Show, Decide, Access, Time, Paths, Outcomes, Graph, Check, Compare, Policy, Explain}
 use Rattle.pam_words.specs.declared.wanted.Task.TheVariants.{Facts, Needs, Version}
 use Rattle.pam_render.specs.full_text.Check.{IsFull}
 use Rattle.pam_render.specs.parts.Findings.{is_check}
+use Rattle.pam_render.specs.patch_text.Check.{IsPatch}
 use Rattle.pam_render.specs.sarif.Document.{IsSarif}
 use Rattle.pam_render.specs.text.Leaves.{LeavesFault, LeavesSome}
-use Rattle.pam_render.specs.text.Text.{IsFullOrText, IsJsonOrText, IsSarifOrText, IsText as IsPlainText, IsTextIn}
+use Rattle.pam_render.specs.text.Text.{IsFullOrText, IsJsonOrText, IsPatchOrText, IsSarifOrText, IsText as IsPlainText, IsTextIn}
 
 -- what a call gives that answers a task, if another gives as much for each relation
 pub answers-by : (One Other : (Answer → Type 0) → Type 0) → ((IsAnswer : Answer → Type 0) → One IsAnswer → Other IsAnswer)
@@ -181,6 +182,24 @@ module _ {W : Type 0} (contents : W → Option (List ℕ)) (old new : Out W) (re
   pub text-printed-for_full : (result : Result (Unit {0}) Fault) → is_check reply ≡ false → PrintsBy contents IsPlainText old new result reply
       → PrintsBy contents (IsTextIn Full) old new result reply
   text-printed-for_full result none h = printed-as contents IsPlainText (IsTextIn Full) old new reply (plain-as_full reply none) result h
+
+-- ---- the patch
+
+plain-as_patch : (reply : Reply) → is_check reply ≡ false → (text : Result (List ℕ) CursorError) → IsPlainText reply text → IsTextIn Patch reply text
+plain-as_patch reply none text is = subst (λ (given : Bool). IsPatchOrText given reply text) (sym none) is
+
+module _ {W : Type 0} (contents : W → Option (List ℕ)) (old new : Out W) (reply : Reply) where
+  -- the patch of the check that the reply is
+  pub patch-printed : (found : CheckValue) (result : Result (Unit {0}) Fault) → reply ≡ CheckReply found
+      → PrintsBy contents IsPatch old new result (CheckReply found) → PrintsBy contents (IsTextIn Patch) old new result reply
+  patch-printed found result same h =
+      subst (λ (r : Reply). PrintsBy contents (IsTextIn Patch) old new result r) (sym same)
+      (printed-as contents IsPatch (IsTextIn Patch) old new (CheckReply found) (λ text is. is) result h)
+
+  -- the text of another reply
+  pub text-printed-for_patch : (result : Result (Unit {0}) Fault) → is_check reply ≡ false → PrintsBy contents IsPlainText old new result reply
+      → PrintsBy contents (IsTextIn Patch) old new result reply
+  text-printed-for_patch result none h = printed-as contents IsPlainText (IsTextIn Patch) old new reply (plain-as_patch reply none) result h
 
 -- ---- pages
 

@@ -1,14 +1,16 @@
 -- The JSON of `check`: a line for each finding, and a last line with their numbers.
 use Rattle.std.specs.Prelude.{ℕ, ◌==◌, Bool, true, false, List, [], ◌∷◌, ◌++◌, codes, map, Option, None, Some, option_map, slice_index_or}
 use Rattle.std.specs.Prelude.{if◌then◌else◌}
-use Rattle.std.specs.List.{after_first, before_first}
 use Rattle.std.specs.Option.{option_and_then, option_map_or}
 use Rattle.pam_codes.specs.SetText.{name_of}
 use Rattle.pam_conf.specs.Stack.{Items}
 use Rattle.pam_conf.specs.declared.rule.Kind.{Kind}
 use Rattle.pam_conf.specs.declared.rule.Kind.TheVariants.{Auth, Account, Password, Session}
+use Rattle.pam_explain.specs.Explanation.{Explanation}
 use Rattle.pam_findings.specs.host.Levels.{level_of}
-use Rattle.pam_findings.specs.declared.host.level.Level.{Level}
+use Rattle.pam_findings.specs.host.Rows.{row_of}
+use Rattle.pam_findings.specs.tables.Rows.{row_of as row_of_table}
+use Rattle.pam_explain.specs.declared.explanation.Level.{Level}
 use Rattle.pam_facts.specs.declared.kinds.Kinds.{Kinds}
 use Rattle.pam_findings.specs.declared.host.met.Met.{Met}
 use Rattle.pam_findings.specs.declared.host.problem.Place.{Place}
@@ -25,14 +27,14 @@ use Rattle.pam_render.specs.parts.Check.{Names, path_of, spot_of, stacks_of, tex
 use Rattle.pam_render.specs.parts.Findings.{Found, InTable, Last, Line, Unused, check_lines}
 use Rattle.pam_render.specs.declared.parts.check.Counts.{Counts}
 use Rattle.pam_report.specs.Decide.{path_at}
-use Rattle.pam_report.specs.Names.{problem_name, stack_of}
+use Rattle.pam_report.specs.Names.{stack_of}
 use Rattle.pam_report.specs.Reply.{CheckValue}
-use Rattle.pam_report.specs.TablePaths.{TablePathsText, level_of_table_problem, path_of as path_of_table, table_problem_name}
-use Rattle.pam_report.specs.Unused.{UnusedText, level_of_unused, number_of_unused}
+use Rattle.pam_report.specs.TablePaths.{TablePathsText, path_of as path_of_table}
+use Rattle.pam_report.specs.Unused.{UnusedText, level_of_unused, number_of_unused, unused_row}
 use Rattle.pam_render.specs.sentences.Sentences.{level_name}
 use Rattle.pam_findings.specs.declared.tables.problem.TableFinding.{TableFinding}
 use Rattle.serde_json.specs.Data.{Data, array, no_items, number, object, string, unsigned}
-use Rattle.pam_render.specs.json_text.Header.{is_space, kind_name}
+use Rattle.pam_render.specs.json_text.Header.{kind_name}
 use Rattle.pam_render.specs.json_text.Sentences.{said_parts, table_parts, unused_parts}
 
 -- WHERE AND WHAT
@@ -42,12 +44,12 @@ abbrev pub line_if_any : ℕ → Option ℕ
 line_if_any at = if at == 0 then None else Some at
 
 -- the place of a problem, how grave it is, its number and its name, and what is said of it
-abbrev pub place_members : List ℕ → ℕ → Option Spot → Level → List ℕ → Data → List (List ℕ × Data) → List (List ℕ × Data)
-place_members file at spot level name said members =
+abbrev pub place_members : List ℕ → ℕ → Option Spot → Level → Explanation → Data → List (List ℕ × Data) → List (List ℕ × Data)
+place_members file at spot level row said members =
     kind (codes "finding") ∷ (codes "file", readable file) ∷ (codes "line", number_or_null (line_if_any (told_line at spot)))
     ∷ (codes "column", number_or_null (option_map (λ s. s.column) spot)) ∷ (codes "length", number_or_null (option_map (λ s. s.len) spot))
-    ∷ (codes "level", string (level_name level)) ∷ (codes "number", string (before_first is_space name))
-    ∷ (codes "name", string (after_first is_space name)) ∷ (codes "sentence", said) ∷ members
+    ∷ (codes "level", string (level_name level)) ∷ (codes "number", string row.number)
+    ∷ (codes "name", string row.name) ∷ (codes "sentence", said) ∷ members
 
 -- THE STACKS THAT MEET IT
 
@@ -115,7 +117,7 @@ stack_members service type services met answers =
 
 abbrev pub finding_members : Names → Place → Finding → Option MisspelledText → List (List ℕ × Data)
 finding_members names place finding word =
-    place_members (path_of names.paths place.file) place.line (spot_of word) (level_of finding.problem) (problem_name finding.problem)
+    place_members (path_of names.paths place.file) place.line (spot_of word) (level_of finding.problem) (row_of finding.problem)
     (joined (said_parts place.line finding.problem word))
     (stack_members (option_map (text_at names.services) (service_of finding.problem)) (option_map (λ stack. stack.1) (stack_of finding.problem))
     names.services (met_unless finding.met (service_of finding.problem)) (answers_array names.ways_in finding.met finding.problem))
@@ -127,19 +129,19 @@ finding_json names place finding word = line (finding_members names place findin
 abbrev pub no_stack_members : List (List ℕ × Data)
 no_stack_members = stack_members None None [] None (array no_items)
 
-unfoldable pub other_json : List ℕ → ℕ → Level → List ℕ → Data → List ℕ
-other_json file at level name said = line (place_members file at None level name said no_stack_members)
+unfoldable pub other_json : List ℕ → ℕ → Level → Explanation → Data → List ℕ
+other_json file at level row said = line (place_members file at None level row said no_stack_members)
 
 -- that of a problem of a table
 abbrev pub table_json : TablePathsText → TableFinding → List ℕ
 table_json paths finding =
-    other_json (path_of_table paths finding.table finding.number) finding.line (level_of_table_problem finding.problem) (table_problem_name finding.problem)
+    other_json (path_of_table paths finding.table finding.number) finding.line (row_of_table finding.problem).level (row_of_table finding.problem)
     (joined (table_parts finding.problem))
 
 -- that of a line that says nothing of the host
 abbrev pub unused_json : List ℕ → UnusedText → List ℕ
 unused_json file unused =
-    other_json file (number_of_unused unused) (level_of_unused unused) (codes "S8 UnusedLine") (joined (unused_parts unused))
+    other_json file (number_of_unused unused) (level_of_unused unused) unused_row (joined (unused_parts unused))
 
 -- THE LAST LINE
 abbrev pub checked_members : ℕ → Counts → List (List ℕ × Data)

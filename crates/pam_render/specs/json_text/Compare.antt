@@ -1,6 +1,5 @@
 -- The JSON of `compare`: a line for each change, and a last line with their numbers.
 use Rattle.std.specs.Prelude.{ℕ, List, [], ◌∷◌, codes, map, Option, None, Some, option_map}
-use Rattle.std.specs.List.{after_first, before_first}
 use Rattle.std.specs.Option.{option_map_or}
 use Rattle.pam_changes.specs.declared.counts.Counts.{Counts}
 use Rattle.pam_changes.specs.declared.guards.Guard.{Guard}
@@ -22,10 +21,11 @@ use Rattle.pam_render.specs.parts.Compared.{Arguments, As, Change, Guard as Guar
 use Rattle.pam_render.specs.parts.Compared.{StackOfOne, compared_lines}
 use Rattle.pam_report.specs.Decide.{path_at}
 use Rattle.pam_report.specs.Fault.{file_at}
-use Rattle.pam_report.specs.FaultTable.{conf_row}
+use Rattle.pam_findings.specs.host.Rows.{row_of}
+use Rattle.pam_findings.specs.declared.host.problem.Problem.TheVariants.{Fault}
 use Rattle.pam_report.specs.Reply.{CompareValue}
 use Rattle.serde_json.specs.Data.{Data, array, null, number, object, string, unsigned}
-use Rattle.pam_render.specs.json_text.Header.{is_space, kind_name}
+use Rattle.pam_render.specs.json_text.Header.{kind_name}
 
 -- A STACK
 
@@ -136,8 +136,8 @@ guard_json stack g = line (guard_members stack g)
 -- the first fault of a configuration, and where it is, if it is in a file
 unfoldable pub fault_object : Folder → ConfError → Data
 fault_object files fault =
-    let name = (conf_row fault.kind).name in
-    object (members_of ((codes "number", string (before_first is_space name)) ∷ (codes "name", string (after_first is_space name))
+    let row = row_of (Fault fault.kind) in
+    object (members_of ((codes "number", string row.number) ∷ (codes "name", string row.name)
     ∷ (codes "file", readable_or_null (file_at files fault.at)) ∷ (codes "line", number_or_null (option_map (λ _. fault.line) (file_at files fault.at))) ∷ []))
 
 -- nothing where the configuration accepts the service

@@ -1,5 +1,5 @@
--- The first line of an answer about a stack, and the names in its other lines.
-use Rattle.std.specs.Prelude.{ℕ, ◌==◌, Bool, List, [], ◌∷◌, codes, map}
+-- The first line of an answer about a stack.
+use Rattle.std.specs.Prelude.{ℕ, List, [], ◌∷◌, codes, map}
 use Rattle.std.specs.Char.{to_ascii_lowercase}
 use Rattle.pam_conf.specs.declared.rule.Kind.{Kind}
 use Rattle.pam_render.specs.json_lines.Line.{kind}
@@ -11,7 +11,3 @@ abbrev pub stack_members : List ℕ → Kind → ℕ → List (List ℕ × Data)
 stack_members service type modules =
     kind (codes "stack") ∷ (codes "service", string (map to_ascii_lowercase service)) ∷ (codes "type", string (kind_name type))
     ∷ (codes "modules", number (unsigned modules)) ∷ []
-
--- the number and the name of what is wrong, which a space separates
-abbrev pub is_space : ℕ → Bool
-is_space byte = byte == 32

@@ -1,6 +1,6 @@
 -- The JSON of `policy`: a line for each finding, for each rule, and a last line with their numbers.
 use Rattle.std.specs.Prelude.{ℕ, List, [], ◌∷◌, codes, length, map, Option, None, Some}
-use Rattle.std.specs.List.{after_first, before_first, flat_map}
+use Rattle.std.specs.List.{flat_map}
 use Rattle.std.specs.Option.{option_map_or}
 use Rattle.pam_codes.specs.SetText.{name_of}
 use Rattle.pam_conf.specs.Stack.{Items}
@@ -14,16 +14,15 @@ use Rattle.pam_policy.specs.host.Findings.{Broken, FindingText}
 use Rattle.pam_policy.specs.host.Told.{standing_of}
 use Rattle.pam_policy.specs.search.Runs.{RunValue}
 use Rattle.pam_report.specs.Decide.{path_at}
-use Rattle.pam_report.specs.PolicyLevels.{policy_level}
+use Rattle.pam_report.specs.PolicyLevels.{policy_level, policy_row}
 use Rattle.pam_report.specs.Reply.{PolicyValue}
 use Rattle.pam_render.specs.json_lines.Line.{items_of, kind, line, members_of, readable, readable_or_null}
 use Rattle.pam_render.specs.parts.Policy.{Found, Host, Judged, Last, Line, ToldFinding, ToldRule, class_at, kind_of_place, policy_lines, service_of_place}
 use Rattle.pam_render.specs.declared.parts.check.Counts.{Counts}
 use Rattle.pam_render.specs.sentences.Phrases.{phrase_chars}
-use Rattle.pam_render.specs.sentences.Policy.{finding_name, finding_phrases}
+use Rattle.pam_render.specs.sentences.Policy.{finding_phrases}
 use Rattle.pam_render.specs.sentences.Sentences.{level_name}
 use Rattle.serde_json.specs.Data.{Data, array, no_items, number, object, string, unsigned}
-use Rattle.pam_render.specs.json_text.Header.{is_space}
 
 -- WHAT IS FOUND
 
@@ -71,8 +70,8 @@ decision_of finding = None
 -- THE LINE of a finding
 abbrev pub found_members : Host → ToldFinding → List (List ℕ × Data)
 found_members host told =
-    kind (codes "finding") ∷ (codes "number", string (before_first is_space (finding_name told.finding)))
-    ∷ (codes "name", string (after_first is_space (finding_name told.finding))) ∷ (codes "level", string (level_name (policy_level told.finding)))
+    kind (codes "finding") ∷ (codes "number", string (policy_row told.finding).number)
+    ∷ (codes "name", string (policy_row told.finding).name) ∷ (codes "level", string (level_name (policy_level told.finding)))
     ∷ (codes "policy", readable told.rule.policy) ∷ (codes "line", number (unsigned told.rule.line)) ∷ (codes "rule", readable told.rule.text)
     ∷ (codes "sentence", sentence_string host told) ∷ (codes "stacks", stacks_array host told.places)
     ∷ (codes "decision", readable_or_null (decision_of told.finding)) ∷ (codes "steps", steps_array host told.finding) ∷ []

@@ -3,15 +3,15 @@ use Rattle.std.specs.Prelude.{ℕ, ◌+◌, ◌*◌, Bool, true, false, List, []
 use Rattle.std.specs.Option.{option_and_then}
 use Rattle.pam_conf.specs.declared.rule.Form.{Form}
 use Rattle.pam_findings.specs.host.Levels.{level_of}
-use Rattle.pam_findings.specs.declared.host.level.Level.{Level}
-use Rattle.pam_findings.specs.declared.host.level.Level.TheVariants as levels
+use Rattle.pam_explain.specs.declared.explanation.Level.{Level}
+use Rattle.pam_explain.specs.declared.explanation.Level.TheVariants as levels
 use Rattle.pam_findings.specs.declared.host.problem.Place.{Place}
 use Rattle.pam_findings.specs.declared.host.report.Finding.{Finding}
 use Rattle.pam_findings.specs.declared.host.way_in.WayIn.{WayIn}
 use Rattle.pam_findings.specs.misspelled.Misspelled.{MisspelledText}
 use Rattle.pam_findings.specs.declared.misspelled.spot.Spot.{Spot}
 use Rattle.pam_report.specs.Reply.{CheckValue}
-use Rattle.pam_report.specs.TablePaths.{level_of_table_problem}
+use Rattle.pam_findings.specs.tables.Rows.{row_of as row_of_table}
 use Rattle.pam_report.specs.Unused.{UnusedText, level_of_unused}
 use Rattle.pam_findings.specs.declared.tables.problem.TableFinding.{TableFinding}
 use Rattle.pam_render.specs.declared.parts.check.Counts.{Counts}
@@ -70,7 +70,7 @@ at_most count = min count 18446744073709551615
 
 -- the number of problems of tables of a level
 abbrev pub table_number_at : Level → List TableFinding → ℕ
-table_number_at level tables = count_by (λ finding. is_level (level_of_table_problem finding.problem) level) tables
+table_number_at level tables = count_by (λ finding. is_level (row_of_table finding.problem).level level) tables
 
 -- the number of lines of a level that say nothing of the host
 abbrev pub unused_number_at : Level → List UnusedText → ℕ

@@ -1,33 +1,25 @@
 -- The rules of a SARIF document: what each number means that a result has.
 use Rattle.std.specs.Prelude.{ℕ, ◌&&◌, ◌||◌, nat_lt, Bool, List, [], ◌∷◌, bytes_eq, codes, length, map}
-use Rattle.std.specs.List.{before_first, filter, list_any}
+use Rattle.std.specs.List.{filter, list_any}
 use Rattle.pam_explain.specs.Explanation.{Explanation}
 use Rattle.pam_explain.specs.Explanations.{explanations}
 use Rattle.pam_render.specs.json_lines.Line.{items_of, joined, members_of}
-use Rattle.pam_render.specs.json_text.Header.{is_space}
-use Rattle.pam_report.specs.Names.{problem_name}
+use Rattle.pam_findings.specs.host.Rows.{row_of}
+use Rattle.pam_findings.specs.tables.Rows.{row_of as row_of_table}
 use Rattle.pam_report.specs.Reply.{CheckValue}
-use Rattle.pam_report.specs.TablePaths.{table_problem_name}
+use Rattle.pam_report.specs.Unused.{unused_row}
 use Rattle.serde_json.specs.Data.{Data, array, object, string}
 
 -- a text as SARIF has it
 abbrev pub text_object : Data → Data
 text_object text = object (members_of ((codes "text", text) ∷ []))
 
--- the number of what is wrong, before its name
-abbrev pub number_of : List ℕ → List ℕ
-number_of name = before_first is_space name
-
--- a line that says nothing of the host
-abbrev pub unused_name : List ℕ
-unused_name = codes "S8 UnusedLine"
-
 -- a finding, a problem of a table, or such a line has the number
 abbrev pub is_found : CheckValue → List ℕ → Bool
 is_found value number =
-    list_any (λ entry. bytes_eq (number_of (problem_name entry.1.problem)) number) value.found
-    || list_any (λ finding. bytes_eq (number_of (table_problem_name finding.problem)) number) value.tables
-    || nat_lt 0 (length value.unused) && bytes_eq (number_of unused_name) number
+    list_any (λ entry. bytes_eq (row_of entry.1.problem).number number) value.found
+    || list_any (λ finding. bytes_eq (row_of_table finding.problem).number number) value.tables
+    || nat_lt 0 (length value.unused) && bytes_eq unused_row.number number
 
 abbrev pub is_rule : CheckValue → Explanation → Bool
 is_rule value e = is_found value e.number

@@ -1,4 +1,4 @@
--- What `policy` says of each finding: its number and name, and the phrases of its sentence.
+-- What `policy` says of each finding: the phrases of its sentence.
 use Rattle.std.specs.Prelude.{ℕ, ◌==◌, List, [], ◌∷◌, ◌++◌, codes, if◌then◌else◌, Option, None, Some}
 use Rattle.std.specs.List.{flat_map, list_any}
 use Rattle.std.specs.Option.{option_map_or}
@@ -19,25 +19,11 @@ use Rattle.pam_policy.specs.names.Words.{ArgumentText, MisnamedText, WordText, F
 use Rattle.pam_policy.specs.search.Runs.{RunValue}
 use Rattle.pam_report.specs.Decide.{path_at}
 use Rattle.pam_report.specs.Fault.{file_at}
-use Rattle.pam_report.specs.FaultTable.{conf_row}
+use Rattle.pam_findings.specs.host.Rows.{row_of}
+use Rattle.pam_findings.specs.declared.host.problem.Problem.TheVariants.{Fault}
 use Rattle.pam_report.specs.Names.{kind_name}
 use Rattle.pam_render.specs.parts.Policy.{Host, class_at}
 use Rattle.pam_render.specs.sentences.Phrases.{Phrase, Name, Number, Said}
-
--- NUMBER AND NAME
-
-abbrev pub word_name : MisnamedText → List ℕ
-word_name (NoService word) = codes "P3 NoService"
-word_name FitsNone = codes "P3 NoService"
-word_name (NoModule word) = codes "P4 NoModule"
-word_name (NoArgument argument) = codes "P7 NoArgument"
-
-abbrev pub finding_name : FindingText → List ℕ
-finding_name (Broken class run) = codes "P1 Broken"
-finding_name (Impossible class) = codes "P2 Impossible"
-finding_name (Misnamed word) = word_name word
-finding_name (SaysNothing idle) = codes "P5 Idle"
-finding_name (NotKnown class) = codes "P6 NotKnown"
 
 -- P1: THE RUN THAT BREAKS A RULE
 
@@ -92,7 +78,8 @@ place_phrases (Some file) line = Said (codes " ") ∷ Name file ∷ Said (codes 
 
 abbrev pub fault_phrases : Folder → ConfError → List Phrase
 fault_phrases files fault =
-    (Said (codes "the stack is refused, ") ∷ Said (conf_row fault.kind).name ∷ []) ++ place_phrases (file_at files fault.at) fault.line
+    let row = row_of (Fault fault.kind) in
+    (Said (codes "the stack is refused, ") ∷ Said row.number ∷ Said (codes " ") ∷ Said row.name ∷ []) ++ place_phrases (file_at files fault.at) fault.line
 
 -- the fault of a stack that is refused, or that its runs are too many
 abbrev pub reason_phrases : Folder → ClassStack → List Phrase

@@ -7,8 +7,8 @@ use Rattle.pam_facts.specs.declared.arguments.lacks.Lack.{Lack}
 use Rattle.pam_facts.specs.declared.arguments.lacks.Lack.TheVariants as lacks
 use Rattle.pam_facts.specs.declared.arguments.verdict.Reaction.{Reaction}
 use Rattle.pam_facts.specs.declared.arguments.verdict.Reaction.TheVariants.{Fails, Ignores, Logs}
-use Rattle.pam_findings.specs.declared.host.level.Level.{Level}
-use Rattle.pam_findings.specs.declared.host.level.Level.TheVariants.{Error, Note, Warning}
+use Rattle.pam_explain.specs.declared.explanation.Level.{Level}
+use Rattle.pam_explain.specs.declared.explanation.Level.TheVariants.{Error, Note, Warning}
 use Rattle.pam_findings.specs.declared.host.missing_files.Absence.{Absence}
 use Rattle.pam_findings.specs.declared.host.missing_files.Absence.TheVariants as absences
 use Rattle.pam_findings.specs.declared.host.problem.ArgumentProblem.{ArgumentProblem}

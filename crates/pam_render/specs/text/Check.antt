@@ -9,7 +9,11 @@ use Rattle.pam_conf.specs.Stack.{Items}
 use Rattle.pam_conf.specs.declared.rule.Form.{Form}
 use Rattle.pam_conf.specs.declared.rule.Form.TheVariants.{Single}
 use Rattle.pam_conf.specs.declared.rule.Kind.{Kind}
+use Rattle.pam_explain.specs.declared.explanation.Level.{Level}
+use Rattle.pam_explain.specs.Explanation.{Explanation}
 use Rattle.pam_findings.specs.host.Levels.{level_of}
+use Rattle.pam_findings.specs.host.Rows.{row_of}
+use Rattle.pam_findings.specs.tables.Rows.{row_of as row_of_table}
 use Rattle.pam_facts.specs.declared.kinds.Kinds.{Kinds}
 use Rattle.pam_findings.specs.declared.host.met.Met.{Met}
 use Rattle.pam_findings.specs.declared.host.problem.Place.{Place}
@@ -25,10 +29,10 @@ use Rattle.pam_render.specs.parts.Check.{Names, path_of, spot_of, stacks_of, tex
 use Rattle.pam_render.specs.parts.Findings.{Found, InTable, Last, Line, Unused, check_lines}
 use Rattle.pam_render.specs.declared.parts.check.Counts.{Counts}
 use Rattle.pam_report.specs.Decide.{path_at}
-use Rattle.pam_report.specs.Names.{problem_name, stack_of}
+use Rattle.pam_report.specs.Names.{stack_of}
 use Rattle.pam_report.specs.Reply.{CheckValue}
-use Rattle.pam_report.specs.TablePaths.{TablePathsText, level_of_table_problem, path_of as path_of_table, table_problem_name}
-use Rattle.pam_report.specs.Unused.{UnusedText, level_of_unused, number_of_unused}
+use Rattle.pam_report.specs.TablePaths.{TablePathsText, path_of as path_of_table}
+use Rattle.pam_report.specs.Unused.{UnusedText, level_of_unused, number_of_unused, unused_row}
 use Rattle.pam_findings.specs.declared.tables.problem.TableFinding.{TableFinding}
 use Rattle.pam_render.specs.text.Header.{kind_name}
 use Rattle.pam_render.specs.sentences.Sentences as say
@@ -155,10 +159,14 @@ unfoldable pub sentence : Names → Place → Option Met → Problem → Option 
 sentence names place met problem word =
     subject_text names (stack_of problem) ++ say.said place.line problem word ++ rest_text names place.file met problem
 
+-- `LEVEL: NUMBER NAME: `, with the number and the name of a row
+unfoldable pub heading_text : Level → Explanation → List ℕ
+heading_text level row = say.level_name level ++ codes ": " ++ row.number ++ codes " " ++ row.name ++ codes ": "
+
 -- A LINE: `PLACE: LEVEL: NUMBER NAME: SENTENCE`
 unfoldable pub finding_line : Names → Place × Finding → Option MisspelledText → List ℕ
 finding_line names entry word =
-    place_text names.paths entry.0 (spot_of word) ++ say.level_name (level_of entry.1.problem) ++ codes ": " ++ problem_name entry.1.problem ++ codes ": "
+    place_text names.paths entry.0 (spot_of word) ++ heading_text (level_of entry.1.problem) (row_of entry.1.problem)
     ++ sentence names entry.0 entry.1.met entry.1.problem word ++ codes "\n"
 
 -- A LINE FOR A PROBLEM OF A TABLE: `PATH:LINE: LEVEL: NUMBER NAME: SENTENCE`
@@ -166,8 +174,7 @@ abbrev pub table_place : TablePathsText → TableFinding → List ℕ
 table_place paths finding = shown_name (path_of_table paths finding.table finding.number) ++ number_text finding.line ++ codes ": "
 
 abbrev pub table_heading : TableFinding → List ℕ
-table_heading finding =
-    say.level_name (level_of_table_problem finding.problem) ++ codes ": " ++ table_problem_name finding.problem ++ codes ": "
+table_heading finding = heading_text (row_of_table finding.problem).level (row_of_table finding.problem)
 
 unfoldable pub table_line : TablePathsText → TableFinding → List ℕ
 table_line paths finding = table_place paths finding ++ table_heading finding ++ table_sentence finding.problem ++ codes "\n"
@@ -192,12 +199,11 @@ checked_line count name stacks counts =
 abbrev pub last_line : ℕ → Counts → List ℕ
 last_line services counts = checked_line services (codes "service") (stacks_of services) counts
 
--- `:LINE: LEVEL: S8 UnusedLine: `
+-- `:LINE: LEVEL: NUMBER NAME: `
 abbrev pub unused_heading : UnusedText → List ℕ
-unused_heading unused =
-    codes ":" ++ decimal (number_of_unused unused) ++ codes ": " ++ say.level_name (level_of_unused unused) ++ codes ": S8 UnusedLine: "
+unused_heading unused = codes ":" ++ decimal (number_of_unused unused) ++ codes ": " ++ heading_text (level_of_unused unused) unused_row
 
--- A LINE THAT SAYS NOTHING of the host: `FILE:LINE: LEVEL: S8 UnusedLine: SENTENCE`
+-- A LINE THAT SAYS NOTHING of the host: `FILE:LINE: LEVEL: NUMBER NAME: SENTENCE`
 unfoldable pub unused_line : List ℕ → UnusedText → List ℕ
 unused_line file unused = shown_name file ++ unused_heading unused ++ say.unused_said unused ++ codes "\n"
 

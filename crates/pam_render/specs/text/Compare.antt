@@ -24,7 +24,8 @@ use Rattle.pam_render.specs.parts.Compared.{Arguments, As, Change, Guard as Guar
 use Rattle.pam_render.specs.parts.Compared.{StackOfOne, compared_lines}
 use Rattle.pam_report.specs.Decide.{path_at}
 use Rattle.pam_report.specs.Fault.{file_at}
-use Rattle.pam_report.specs.FaultTable.{conf_row}
+use Rattle.pam_findings.specs.host.Rows.{row_of}
+use Rattle.pam_findings.specs.declared.host.problem.Problem.TheVariants.{Fault}
 use Rattle.pam_report.specs.Reply.{CompareValue}
 use Rattle.pam_render.specs.text.Check.{counted}
 use Rattle.pam_render.specs.sentences.Shown.{shown_name}
@@ -145,7 +146,9 @@ place_text (Some file) line = codes " " ++ shown_name file ++ codes ":" ++ decim
 
 -- `NUMBER NAME FILE:LINE`
 unfoldable pub fault_text : Folder → ConfError → List ℕ
-fault_text files fault = (conf_row fault.kind).name ++ place_text (file_at files fault.at) fault.line
+fault_text files fault =
+    let row = row_of (Fault fault.kind) in
+    row.number ++ codes " " ++ row.name ++ place_text (file_at files fault.at) fault.line
 
 abbrev pub side_text : Folder → Option ConfError → List ℕ
 side_text files None = codes "accepted"

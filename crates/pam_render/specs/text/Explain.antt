@@ -4,17 +4,11 @@ use Rattle.std.specs.List.{flat_map, slice_split}
 use Rattle.pam_text.specs.Cut.{is_among}
 use Rattle.pam_explain.specs.Explanation.{Explanation}
 use Rattle.pam_explain.specs.Explanations.{explanations}
-use Rattle.pam_explain.specs.declared.explanation.Level.{Level}
-use Rattle.pam_explain.specs.declared.explanation.Level.TheVariants.{Error, Note, Warning}
-
-abbrev pub level_text : Level → List ℕ
-level_text Note = codes "note"
-level_text Warning = codes "warning"
-level_text Error = codes "error"
+use Rattle.pam_render.specs.sentences.Sentences.{level_name}
 
 -- `NUMBER NAME (LEVEL)`, and the meaning
 unfoldable pub head_text : Explanation → List ℕ
-head_text e = e.number ++ codes " " ++ e.name ++ codes " (" ++ level_text e.level ++ codes ")\n" ++ e.meaning ++ codes "\n"
+head_text e = e.number ++ codes " " ++ e.name ++ codes " (" ++ level_name e.level ++ codes ")\n" ++ e.meaning ++ codes "\n"
 
 -- a line of an example, indented
 abbrev pub example_line : List ℕ → List ℕ
@@ -38,7 +32,7 @@ explanation_text e = head_text e ++ example_text e.example ++ rest_text e
 
 -- `NUMBER NAME LEVEL`
 unfoldable pub row_text : Explanation → List ℕ
-row_text e = e.number ++ codes " " ++ e.name ++ codes " " ++ level_text e.level ++ codes "\n"
+row_text e = e.number ++ codes " " ++ e.name ++ codes " " ++ level_name e.level ++ codes "\n"
 
 -- THE TEXT of the list of all explanations
 abbrev pub explanations_text : List ℕ

@@ -1,11 +1,11 @@
 -- The text of `policy`: a line for each finding, and a last line with their numbers.
 use Rattle.std.specs.Prelude.{ℕ, ◌==◌, List, [], ◌∷◌, ◌++◌, codes, if◌then◌else◌, length, map}
 use Rattle.std.specs.List.{flat_map}
-use Rattle.pam_report.specs.PolicyLevels.{policy_level}
+use Rattle.pam_report.specs.PolicyLevels.{policy_level, policy_row}
 use Rattle.pam_report.specs.Reply.{PolicyValue}
 use Rattle.pam_render.specs.parts.Policy.{Found, Host, Judged, Last, Line, ToldFinding, kind_of_place, policy_lines, service_of_place}
 use Rattle.pam_render.specs.sentences.Phrases.{Phrase, Name, Number, Said, phrase_text}
-use Rattle.pam_render.specs.sentences.Policy.{finding_name, finding_phrases}
+use Rattle.pam_render.specs.sentences.Policy.{finding_phrases}
 use Rattle.pam_render.specs.sentences.Sentences.{level_name}
 use Rattle.pam_render.specs.text.Check.{checked_line}
 
@@ -13,7 +13,7 @@ use Rattle.pam_render.specs.text.Check.{checked_line}
 abbrev pub heading_phrases : ToldFinding → List Phrase
 heading_phrases told =
     Name told.rule.policy ∷ Said (codes ":") ∷ Number told.rule.line ∷ Said (codes ": ") ∷ Said (level_name (policy_level told.finding)) ∷ Said (codes ": ")
-    ∷ Said (finding_name told.finding) ∷ Said (codes ": ") ∷ []
+    ∷ Said (policy_row told.finding).number ∷ Said (codes " ") ∷ Said (policy_row told.finding).name ∷ Said (codes ": ") ∷ []
 
 -- `FIRST and SECOND`, or `FIRST, SECOND and N more`
 abbrev pub two_listed : List ℕ → List ℕ → ℕ → List Phrase

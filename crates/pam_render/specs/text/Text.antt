@@ -6,9 +6,10 @@ use Rattle.pam_report.specs.Reply.{Facts, Version}
 use Rattle.pam_facts.specs.Table.{facts_text}
 use Rattle.pam_render.specs.json_text.Text.{IsJson, has_json}
 use Rattle.pam_words.specs.declared.wanted.OutputForm.{OutputForm}
-use Rattle.pam_words.specs.declared.wanted.OutputForm.TheVariants.{Full, Json, PlainText, Sarif}
+use Rattle.pam_words.specs.declared.wanted.OutputForm.TheVariants.{Full, Json, Patch, PlainText, Sarif}
 use Rattle.pam_render.specs.full_text.Check.{IsFull}
 use Rattle.pam_render.specs.parts.Findings.{is_check}
+use Rattle.pam_render.specs.patch_text.Check.{IsPatch}
 use Rattle.pam_render.specs.sarif.Document.{IsSarif}
 use Rattle.pam_render.specs.text.About.{version_text}
 use Rattle.pam_render.specs.text.Check.{check_text}
@@ -58,9 +59,15 @@ abbrev pub IsFullOrText : Bool → Reply → Result (List ℕ) CursorError → T
 IsFullOrText true reply text = IsFull reply text
 IsFullOrText false reply text = IsText reply text
 
+-- the patch of a reply, or its text if it has none
+abbrev pub IsPatchOrText : Bool → Reply → Result (List ℕ) CursorError → Type 0
+IsPatchOrText true reply text = IsPatch reply text
+IsPatchOrText false reply text = IsText reply text
+
 -- THE TEXT of a reply in a form
 abbrev pub IsTextIn : OutputForm → Reply → Result (List ℕ) CursorError → Type 0
 IsTextIn PlainText reply text = IsText reply text
 IsTextIn Full reply text = IsFullOrText (is_check reply) reply text
 IsTextIn Json reply text = IsJsonOrText (has_json reply) reply text
 IsTextIn Sarif reply text = IsSarifOrText (is_check reply) reply text
+IsTextIn Patch reply text = IsPatchOrText (is_check reply) reply text

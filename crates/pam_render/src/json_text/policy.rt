@@ -10,13 +10,12 @@ mod values;
 
 use crate::json_lines::{Member, put_line};
 use crate::json_text::form::AsJson;
-use crate::json_text::header::{name_in, number_in};
 use crate::parts::{Counts, PolicyHost, PolicyLine, PolicyLines, ToldFinding, ToldRule};
-use crate::sentences::{level_name, policy_finding_name};
+use crate::sentences::level_name;
 use pam_codes::{Device, Out};
 use pam_drawing::name_of;
 use pam_policy::host::{Finding, Standing};
-use pam_report::policy_level;
+use pam_report::{policy_level, policy_name, policy_number};
 use std::io::Write;
 use values::PolicyValue;
 
@@ -40,13 +39,12 @@ fn put_found<'x, W: Write>(
     ensures { Writes W.contents out.old out.new result (found_json (host_view host.now) (told_view told.now)) }
 {
     let finding = told.finding;
-    let name = policy_finding_name(finding);
     let places = &told.places;
     put_line(
         &[
             Member::text("kind", b"finding"),
-            Member::text("number", number_in(name).as_bytes()),
-            Member::text("name", name_in(name).as_bytes()),
+            Member::text("number", policy_number(&finding).as_bytes()),
+            Member::text("name", policy_name(&finding).as_bytes()),
             Member::text("level", level_name(policy_level(&finding)).as_bytes()),
             Member::readable("policy", told.rule.policy),
             Member::number("line", u64::from(told.rule.line)),

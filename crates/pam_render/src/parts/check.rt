@@ -13,7 +13,7 @@ use pam_conf::Form;
 use pam_findings::host::{Finding, Level, Place, WayIn};
 use pam_findings::misspelled::{Misspelled, Spot};
 use pam_findings::tables::TableFinding;
-use pam_report::{CheckReply, UnusedLine, table_problem_level};
+use pam_report::{CheckReply, UnusedLine};
 use pam_text::Texts;
 use std::alloc::{AllocError, Global};
 
@@ -147,7 +147,7 @@ fn table_number_at(tables: &[TableFinding], level: Level) -> usize
 {
     tables
         .iter()
-        .filter(|finding| is_level(table_problem_level(finding.problem), level))
+        .filter(|finding| is_level(finding.problem.level(), level))
         .count()
 }
 

@@ -62,7 +62,7 @@ fn put_uri_bytes<W: Write>(path: &[u8], out: &mut Out<W>) -> Result<(), Device>
 }
 
 /// Writes a path as the string of a URI reference.
-fn put_uri<W: Write>(path: &[u8], out: &mut Out<W>) -> Result<(), Device>
+pub fn put_uri<W: Write>(path: &[u8], out: &mut Out<W>) -> Result<(), Device>
     ensures { Writes W.contents out.old out.new result (compact_text (string (spec.uri_of path.now))) }
 {
     out.put(b"\"")?;

@@ -16,17 +16,14 @@ ghost use Rattle.pam_text.specs.Out.{Writes};
 ghost use Rattle.serde_json.specs.Written.{compact_text};
 
 use crate::json_lines::{Elements, Member, Written, put_comma, put_more, put_object};
-use crate::json_text::{FindingValue, number_in};
+use crate::json_text::FindingValue;
 use crate::parts::{FoundProblem, Names, path_of, spot_of, word_at};
 use crate::sarif::location::{Located, put_locations};
-use crate::sarif::rules::UNUSED_NAME;
 use crate::sentences::level_name;
 use pam_findings::host::{Finding, Level, Place};
 use pam_findings::misspelled::Misspelled;
 use pam_findings::tables::TableFinding;
-use pam_report::{
-    CheckReply, TablePaths, UnusedLine, problem_name, table_problem_level, table_problem_name,
-};
+use pam_report::{CheckReply, TablePaths, UnusedLine, unused_row};
 use pam_text::{Device, Out};
 use std::io::Write;
 
@@ -58,10 +55,10 @@ impl Written for ResultValue<'_> {
     }
 }
 
-/// Writes the result of what has this number and name.
+/// Writes the result of what has this number.
 #[tactic(auto, unfolding(crate::specs::sarif::Results::result_object))]
 fn put_result<'x, W: Write>(
-    name: &'static str,
+    number: &'static str,
     level: Level,
     said: FindingValue<'x>,
     located: Located<'x>,
@@ -69,11 +66,11 @@ fn put_result<'x, W: Write>(
 ) -> Result<(), Device>
     ensures { let place = located.entry in
         Writes W.contents out.old out.new result
-        (compact_text (spec.result_object name.now level (finding_value said.entry) place.path.now place.line place.spot)) }
+        (compact_text (spec.result_object number.now level (finding_value said.entry) place.path.now place.line place.spot)) }
 {
     put_object(
         &[
-            Member::text("ruleId", number_in(name).as_bytes()),
+            Member::text("ruleId", number.as_bytes()),
             Member::text("level", level_name(level).as_bytes()),
             Member::written("message", ResultValue::Message(said)),
             Member::written("locations", ResultValue::Locations(located)),
@@ -102,7 +99,7 @@ fn put_finding<W: Write>(found: FoundProblem<'_>, out: &mut Out<W>) -> Result<()
         line,
         spot: spot_of(word),
     };
-    put_result(problem_name(problem), problem.level(), said, located, out)
+    put_result(problem.number(), problem.level(), said, located, out)
 }
 
 /// Writes the result of the finding at a position, with a comma before it unless it is the first.
@@ -167,8 +164,8 @@ fn put_table_result<W: Write>(
 {
     let problem = finding.problem;
     put_result(
-        table_problem_name(problem),
-        table_problem_level(problem),
+        problem.number(),
+        problem.level(),
         FindingValue::TableSaid(problem),
         Located {
             path: paths.of(finding.table, finding.number),
@@ -206,7 +203,7 @@ fn put_unused<W: Write>(
     ensures { Writes W.contents out.old out.new result (compact_text (spec.unused_result accept.now facts.now (unused_view line.now))) }
 {
     put_result(
-        UNUSED_NAME,
+        unused_row().number,
         line.level(),
         FindingValue::Unused(line),
         Located {

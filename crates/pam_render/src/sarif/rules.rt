@@ -3,25 +3,22 @@
 ghost use Rattle.std.specs.Prelude.{◌≡◌, ◌++◌, bytes_eq, false, map};
 ghost use Rattle.std.specs.List.{list_any};
 ghost use Rattle.pam_explain.specs.Views.{explanation_view};
+ghost use Rattle.pam_findings.specs.host.Rows.{row_of};
+ghost use Rattle.pam_findings.specs.tables.Rows.{row_of as row_of_table};
 ghost use Rattle.pam_render.specs.json_lines.Line.{joined, separated};
 ghost use Rattle.pam_render.specs.sarif.Rules as spec;
-ghost use Rattle.pam_report.specs.Names.{problem_name as spec_problem_name};
 ghost use Rattle.pam_report.specs.ReplyViews.{check_view};
-ghost use Rattle.pam_report.specs.TablePaths.{table_problem_name as spec_table_name};
+ghost use Rattle.pam_report.specs.Unused.{unused_row};
 ghost use Rattle.pam_text.specs.Out.{Writes};
 ghost use Rattle.serde_json.specs.Written.{comma_if, compact_text};
 
 use crate::json_lines::{Member, Part, Written, put_comma, put_joined, put_object};
-use crate::json_text::number_in;
 use pam_explain::{Explanation, explanations};
 use pam_findings::host::{Finding, Place};
 use pam_findings::tables::TableFinding;
-use pam_report::{CheckReply, problem_name, table_problem_name};
+use pam_report::{CheckReply, unused_row};
 use pam_text::{Device, Out};
 use std::io::Write;
-
-/// The number and the name of a line that says nothing of the host.
-pub(super) const UNUSED_NAME: &str = "S8 UnusedLine";
 
 /// Parts of a text, one after another.
 #[derive(Clone, Copy)]
@@ -64,27 +61,27 @@ impl Written for TextValue<'_> {
     }
 }
 
-/// Whether a number is that of a name, as `S2` of `S2 LetsAnybodyIn`.
-fn is_of(number: &str, name: &str) -> bool
-    ensures { result ≡ bytes_eq (spec.number_of name.now) number.now }
-{
-    number_in(name) == number
-}
-
 /// Whether a finding has a number.
 fn is_of_finding(found: &[(Place, Finding)], number: &str) -> bool
-    ensures { result ≡ list_any (λ entry. bytes_eq (spec.number_of (spec_problem_name entry.1.problem)) number.now) found.now }
+    ensures { result ≡ list_any (λ entry. bytes_eq (row_of entry.1.problem).number number.now) found.now }
 {
-    found
-        .iter()
-        .any(|entry| is_of(number, problem_name(entry.1.problem)))
+    found.iter().any(|entry| entry.1.problem.number() == number)
 }
 
 /// Whether a problem of a table has a number.
 fn is_of_table(tables: &[TableFinding], number: &str) -> bool
-    ensures { result ≡ list_any (λ finding. bytes_eq (spec.number_of (spec_table_name finding.problem)) number.now) tables.now }
+    ensures { result ≡ list_any (λ finding. bytes_eq (row_of_table finding.problem).number number.now) tables.now }
 {
-    tables.iter().any(|finding| is_of(number, table_problem_name(finding.problem)))
+    tables
+        .iter()
+        .any(|finding| finding.problem.number() == number)
+}
+
+/// Whether a line that says nothing of the host has a number.
+fn is_of_unused(number: &str) -> bool
+    ensures { result ≡ bytes_eq unused_row.number number.now }
+{
+    unused_row().number == number
 }
 
 /// Whether a result has a number.
@@ -93,7 +90,7 @@ fn is_found(reply: &CheckReply<'_>, number: &str) -> bool
 {
     is_of_finding(&reply.found, number)
         || is_of_table(&reply.tables, number)
-        || reply.unused.len() > 0 && is_of(number, UNUSED_NAME)
+        || reply.unused.len() > 0 && is_of_unused(number)
 }
 
 /// Writes the rule of a number.

@@ -4,7 +4,6 @@ ghost use Rattle.std.specs.Prelude.{◌≡◌};
 ghost use Rattle.std.specs.List.{flat_map};
 ghost use Rattle.pam_codes.specs.Out.{Writes};
 ghost use Rattle.pam_policy.specs.host.Findings.{finding_view};
-ghost use Rattle.pam_policy.specs.names.Words.{misnamed_view};
 ghost use Rattle.pam_render.specs.parts.PolicyView.{host_view};
 ghost use Rattle.pam_render.specs.sentences.Policy as spec;
 
@@ -15,33 +14,9 @@ use crate::parts::PolicyHost;
 use crate::sentences::phrase::{Phrase, Phrases, put_phrases};
 use pam_codes::{Device, Out};
 use pam_policy::host::{Finding, Idle};
-use pam_policy::names::Misnamed;
 use run::{put_broken, put_not_known};
 use std::io::Write;
 use word::put_word;
-
-fn word_name(word: &Misnamed) -> &'static str
-    ensures { result.now ≡ spec.word_name (misnamed_view word.now) }
-{
-    match word {
-        Misnamed::NoService(_) | Misnamed::FitsNone => "P3 NoService",
-        Misnamed::NoModule(_) => "P4 NoModule",
-        Misnamed::NoArgument(_) => "P7 NoArgument",
-    }
-}
-
-/// Returns the number and the name of a finding of a policy, as `P1 Broken`.
-pub fn policy_finding_name(finding: Finding<'_>) -> &'static str
-    ensures { result.now ≡ spec.finding_name (finding_view finding.entry) }
-{
-    match finding {
-        Finding::Broken(_, _) => "P1 Broken",
-        Finding::Impossible(_) => "P2 Impossible",
-        Finding::Misnamed(word) => word_name(word),
-        Finding::SaysNothing(_) => "P5 Idle",
-        Finding::NotKnown(_) => "P6 NotKnown",
-    }
-}
 
 fn idle_words(idle: Idle) -> &'static [u8]
     ensures { result.now ≡ spec.idle_words idle }

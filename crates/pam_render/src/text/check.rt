@@ -5,15 +5,17 @@ ghost use Rattle.pam_render.specs.text.Check.{checked_line, counted, last_line, 
 ghost use Rattle.pam_report.specs.Unused.{unused_view};
 
 mod finding;
+mod heading;
 mod met;
 mod table;
 
 use crate::parts::{CheckLine, CheckLines, Counts, stacks_of};
-use crate::sentences::{level_name, put_name, put_unused_said};
+use crate::sentences::{put_name, put_unused_said};
 use crate::text::form::AsText;
 use finding::put_finding;
+use heading::put_heading;
 use pam_codes::{Device, Out, Piece};
-use pam_report::UnusedLine;
+use pam_report::{UnusedLine, unused_row};
 use std::io::Write;
 use table::put_table_finding;
 
@@ -75,7 +77,7 @@ fn put_last_line<W: Write>(services: usize, counts: Counts, out: &mut Out<W>) ->
     put_checked(services, "service", stacks_of(services), counts, out)
 }
 
-/// Writes `:LINE: LEVEL: S8 UnusedLine: `.
+/// Writes `:LINE: LEVEL: NUMBER NAME: `.
 fn put_unused_heading<W: Write>(line: &UnusedLine, out: &mut Out<W>) -> Result<(), Device>
     ensures { Writes W.contents out.old out.new result (unused_heading (unused_view line.now)) }
 {
@@ -83,9 +85,8 @@ fn put_unused_heading<W: Write>(line: &UnusedLine, out: &mut Out<W>) -> Result<(
         Piece::Bytes(b":"),
         Piece::Number(u64::from(line.number())),
         Piece::Bytes(b": "),
-        Piece::Bytes(level_name(line.level()).as_bytes()),
-        Piece::Bytes(b": S8 UnusedLine: "),
-    ])
+    ])?;
+    put_heading(line.level(), unused_row(), out)
 }
 
 /// Writes S8 of a line of this file.

@@ -4,23 +4,14 @@ ghost use Rattle.std.specs.Prelude.{◌≡◌};
 ghost use Rattle.std.specs.List.{flat_map};
 ghost use Rattle.pam_codes.specs.Out.{Writes, WritesAndFlushes};
 ghost use Rattle.pam_explain.specs.Views.{explanation_view};
-ghost use Rattle.pam_render.specs.text.Explain.{example_line, example_text, explanation_text, explanations_text, head_text, level_text, lines_of};
+ghost use Rattle.pam_render.specs.text.Explain.{example_line, example_text, explanation_text, explanations_text, head_text, lines_of};
 ghost use Rattle.pam_render.specs.text.Explain.{rest_text, row_text};
 
+use crate::sentences::level_name;
 use pam_codes::{Device, Out, Piece};
-use pam_explain::{Explanation, Level, explanations};
+use pam_explain::{Explanation, explanations};
 use pam_text::cut;
 use std::io::Write;
-
-fn level_text(level: Level) -> &'static str
-    ensures { result.now ≡ level_text level }
-{
-    match level {
-        Level::Note => "note",
-        Level::Warning => "warning",
-        Level::Error => "error",
-    }
-}
 
 /// Writes `NUMBER NAME (LEVEL)`, and the meaning.
 #[tactic(auto, unfolding(crate::specs::text::Explain::head_text))]
@@ -32,7 +23,7 @@ fn put_head<W: Write>(explanation: &Explanation, out: &mut Out<W>) -> Result<(),
         Piece::Bytes(b" "),
         Piece::Bytes(explanation.name.as_bytes()),
         Piece::Bytes(b" ("),
-        Piece::Bytes(level_text(explanation.level).as_bytes()),
+        Piece::Bytes(level_name(explanation.level).as_bytes()),
         Piece::Bytes(b")\n"),
         Piece::Bytes(explanation.meaning.as_bytes()),
         Piece::Bytes(b"\n"),
@@ -109,7 +100,7 @@ fn put_row<W: Write>(explanation: &Explanation, out: &mut Out<W>) -> Result<(), 
         Piece::Bytes(b" "),
         Piece::Bytes(explanation.name.as_bytes()),
         Piece::Bytes(b" "),
-        Piece::Bytes(level_text(explanation.level).as_bytes()),
+        Piece::Bytes(level_name(explanation.level).as_bytes()),
         Piece::Bytes(b"\n"),
     ])
 }

@@ -11,13 +11,11 @@ ghost use Rattle.pam_render.specs.text.Policy.{found_line, heading_phrases, list
 use crate::parts::{
     PolicyHost, PolicyLine, PolicyLines, ToldFinding, kind_of_place, service_of_place,
 };
-use crate::sentences::{
-    Phrase, Phrases, level_name, policy_finding_name, put_name, put_phrases, put_policy_said,
-};
+use crate::sentences::{Phrase, Phrases, level_name, put_name, put_phrases, put_policy_said};
 use crate::text::check::put_checked;
 use crate::text::form::AsText;
 use pam_codes::{Device, Out};
-use pam_report::policy_level;
+use pam_report::{policy_level, policy_name, policy_number};
 use std::io::Write;
 
 impl Phrases for AsText {
@@ -45,7 +43,9 @@ fn put_heading<W: Write>(told: &ToldFinding<'_>, out: &mut Out<W>) -> Result<(),
         Phrase::Said(b": "),
         Phrase::Said(level_name(policy_level(&told.finding)).as_bytes()),
         Phrase::Said(b": "),
-        Phrase::Said(policy_finding_name(told.finding).as_bytes()),
+        Phrase::Said(policy_number(&told.finding).as_bytes()),
+        Phrase::Said(b" "),
+        Phrase::Said(policy_name(&told.finding).as_bytes()),
         Phrase::Said(b": "),
     ];
     put_phrases(&AsText, &phrases, out)

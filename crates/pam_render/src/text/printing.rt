@@ -9,11 +9,12 @@ ghost use Rattle.pam_render.specs.text.Answer.{Answers};
 ghost use Rattle.pam_render.specs.text.inner.Leaves.{Prints};
 ghost use Rattle.pam_render.specs.text.Text.{IsTextIn};
 ghost use Rattle.pam_words.specs.Wanted.{candidate_view};
-ghost use Rattle.pam_words.specs.declared.wanted.OutputForm.TheVariants.{Full, Json, Sarif};
+ghost use Rattle.pam_words.specs.declared.wanted.OutputForm.TheVariants.{Full, Json, Patch, Sarif};
 
 use crate::full_text::write_full;
 use crate::json_text::print_if_any;
 use crate::parts::{with_write_fault, write_check, write_compared, write_policy, write_stacks};
+use crate::patch_text::write_patch;
 use crate::sarif::write_sarif;
 use crate::text::about::{write_known, write_version};
 use crate::text::decide::write_run;
@@ -31,8 +32,8 @@ use pam_words::{OutputForm, Request};
 use std::alloc::Global;
 use std::io::Write;
 
-/// Writes the text of a reply in a form, and flushes once, at its end. A reply that has no JSON, SARIF or full text is
-/// written as text.
+/// Writes the text of a reply in a form, and flushes once, at its end. A reply that has no JSON, SARIF, full text or
+/// patch is written as text.
 ///
 /// For a page of paths, a cursor that is refused is found before the first byte is written; for a page, a drawing, a check and
 /// policies, so is want of memory. Nothing is allocated after it.
@@ -49,6 +50,7 @@ pub fn print<W: Write>(
         OutputForm::Full => print_full(alloc, reply, out),
         OutputForm::Json => print_json(alloc, reply, out),
         OutputForm::Sarif => print_sarif(alloc, reply, out),
+        OutputForm::Patch => print_patch(alloc, reply, out),
     }
 }
 
@@ -82,6 +84,17 @@ fn print_sarif<W: Write>(alloc: Global, reply: &Reply<'_>, out: &mut Out<W>) -> 
 {
     match check_in(reply) {
         Some(check) => write_sarif(alloc, check, out),
+        None => print_text(alloc, reply, out),
+    }
+}
+
+/// Writes the patch of a check, or the text of another reply.
+#[inline(never)]
+fn print_patch<W: Write>(alloc: Global, reply: &Reply<'_>, out: &mut Out<W>) -> Result<(), Fault>
+    ensures { PrintsBy W.contents (IsTextIn Patch) out.old out.new result (reply_view reply.now) }
+{
+    match check_in(reply) {
+        Some(check) => write_patch(alloc, check, out),
         None => print_text(alloc, reply, out),
     }
 }

@@ -3,6 +3,7 @@
 ghost use Rattle.std.specs.Prelude.{◌≡◌};
 ghost use Rattle.std.specs.Option.{option_map};
 ghost use Rattle.pam_codes.specs.Out.{Writes};
+ghost use Rattle.pam_explain.specs.Views.{explanation_view};
 ghost use Rattle.pam_render.specs.parts.Check.{text_at};
 ghost use Rattle.pam_render.specs.parts.CheckNames.{names_view, word_of};
 ghost use Rattle.pam_report.specs.TablePaths.{table_paths_view};
@@ -14,18 +15,15 @@ ghost use Rattle.pam_render.specs.json_text.inner.Written.{finding_value};
 
 use super::values::FindingValue;
 use crate::json_lines::{Member, put_line};
-use crate::json_text::header::{name_in, number_in};
 use crate::parts::{FoundProblem, Names, path_of, spot_of, text_at, told_line};
 use crate::sentences::level_name;
 use pam_codes::{Device, Out};
 use pam_conf::Kind;
+use pam_explain::Explanation;
 use pam_findings::host::{Level, Met, Problem};
 use pam_findings::misspelled::Spot;
 use pam_findings::tables::TableFinding;
-use pam_report::{
-    TablePaths, UnusedLine, kind_name, problem_name, stack_of, table_problem_level,
-    table_problem_name,
-};
+use pam_report::{TablePaths, UnusedLine, kind_name, stack_of, unused_row};
 use std::io::Write;
 
 /// Returns a line, but none for a file as a whole.
@@ -126,7 +124,7 @@ pub(super) fn put_finding<W: Write>(found: FoundProblem<'_>, out: &mut Out<W>) -
     let finding = entry.1;
     let problem = finding.problem;
     let spot = spot_of(word);
-    let name = problem_name(problem);
+    let row = problem.row();
     let service = service_of(problem);
     let met = met_unless(finding.met, service);
     let said = FindingValue::Said {
@@ -147,8 +145,8 @@ pub(super) fn put_finding<W: Write>(found: FoundProblem<'_>, out: &mut Out<W>) -
             Member::number_if_any("column", column_of(spot)),
             Member::number_if_any("length", len_of(spot)),
             Member::text("level", level_name(problem.level()).as_bytes()),
-            Member::text("number", number_in(name).as_bytes()),
-            Member::text("name", name_in(name).as_bytes()),
+            Member::text("number", row.number.as_bytes()),
+            Member::text("name", row.name.as_bytes()),
             Member::written("sentence", said),
             Member::readable_if_any("service", name_of_service(names, service)),
             Member::readable_if_any("type", type_of(stack_of(problem))),
@@ -167,11 +165,11 @@ fn put_other<'x, W: Write>(
     file: &'x [u8],
     line: usize,
     level: Level,
-    name: &'static str,
+    row: &'static Explanation,
     said: FindingValue<'x>,
     out: &mut Out<W>,
 ) -> Result<(), Device>
-    ensures { Writes W.contents out.old out.new result (other_json file.now line level name.now (finding_value said.entry)) }
+    ensures { Writes W.contents out.old out.new result (other_json file.now line level (explanation_view row.now) (finding_value said.entry)) }
 {
     put_line(
         &[
@@ -181,8 +179,8 @@ fn put_other<'x, W: Write>(
             Member::null("column"),
             Member::null("length"),
             Member::text("level", level_name(level).as_bytes()),
-            Member::text("number", number_in(name).as_bytes()),
-            Member::text("name", name_in(name).as_bytes()),
+            Member::text("number", row.number.as_bytes()),
+            Member::text("name", row.name.as_bytes()),
             Member::written("sentence", said),
             Member::null("service"),
             Member::null("type"),
@@ -207,8 +205,8 @@ pub(super) fn put_table_finding<W: Write>(
     put_other(
         paths.of(finding.table, finding.number),
         finding.line as usize,
-        table_problem_level(problem),
-        table_problem_name(problem),
+        problem.level(),
+        problem.row(),
         FindingValue::TableSaid(problem),
         out,
     )
@@ -226,7 +224,7 @@ pub(super) fn put_unused<W: Write>(
         file,
         line.number() as usize,
         line.level(),
-        "S8 UnusedLine",
+        unused_row(),
         FindingValue::Unused(line),
         out,
     )

@@ -8,12 +8,11 @@ ghost use Rattle.serde_json.specs.Written.{compact_text};
 
 use super::modules::{put_arguments, put_modules, put_steps};
 use crate::json_lines::{Member, Written, put_object};
-use crate::json_text::header::{name_in, number_in};
 use crate::parts::file_of;
 use pam_changes::{AskedModule, StackPair};
 use pam_codes::{Device, Out};
 use pam_conf::{ConfError, Files, Stack};
-use pam_report::conf_name;
+use pam_findings::host::Problem;
 use std::io::Write;
 
 /// Returns a line, if there is a file.
@@ -35,11 +34,11 @@ fn put_fault<W: Write>(
 ) -> Result<(), Device>
     ensures { Writes W.contents out.old out.new result (compact_text (fault_object (side_files files.entry) fault.now)) }
 {
-    let name = conf_name(fault.kind);
+    let problem = Problem::Fault(fault.kind);
     let file = file_of(files, fault);
     let members: [Member<'_, ()>; 4] = [
-        Member::text("number", number_in(name).as_bytes()),
-        Member::text("name", name_in(name).as_bytes()),
+        Member::text("number", problem.number().as_bytes()),
+        Member::text("name", problem.name().as_bytes()),
         Member::readable_if_any("file", file),
         Member::number_if_any("line", line_in(file, fault.line)),
     ];

@@ -14,10 +14,11 @@ use pam_codes::{Device, Out};
 use pam_conf::{ConfError, Files, Stack};
 use pam_drawing::name_of;
 use pam_facts::known::name_of_path;
+use pam_findings::host::Problem;
 use pam_graph::MAX_NODES;
 use pam_policy::host::{ClassStack, StackClass};
 use pam_policy::search::{Run, Step};
-use pam_report::{conf_name, kind_name, path_at};
+use pam_report::{kind_name, path_at};
 use std::io::Write;
 
 /// Writes a module that is asked and its answer, after these words.
@@ -157,9 +158,12 @@ fn put_fault<F: Phrases, W: Write>(
 ) -> Result<(), Device>
     ensures { Writes W.contents out.old out.new result (flat_map F.text (spec.fault_phrases (side_files files.entry) fault.now)) }
 {
+    let problem = Problem::Fault(fault.kind);
     let phrases = [
         Phrase::Said(b"the stack is refused, "),
-        Phrase::Said(conf_name(fault.kind).as_bytes()),
+        Phrase::Said(problem.number().as_bytes()),
+        Phrase::Said(b" "),
+        Phrase::Said(problem.name().as_bytes()),
     ];
     put_phrases(form, &phrases, out)?;
     put_place(form, file_of(files, fault), fault.line, out)

@@ -3,22 +3,25 @@
 ghost use Rattle.std.specs.Prelude.{◌≡◌};
 ghost use Rattle.std.specs.List.{flat_map};
 ghost use Rattle.pam_codes.specs.Out.{Writes};
-ghost use Rattle.pam_render.specs.text.Check.{answer_text, answers_text, finding_line, first_way_in, is_its_own, kind_of_service};
+ghost use Rattle.pam_findings.specs.host.Levels.{level_of};
+ghost use Rattle.pam_findings.specs.host.Rows.{row_of};
+ghost use Rattle.pam_render.specs.text.Check.{answer_text, answers_text, finding_line, first_way_in, heading_text, is_its_own, kind_of_service};
 ghost use Rattle.pam_render.specs.text.Check.{met_of_cause, met_unless, met_unless_named, next_answer, number_text, of_service, place_text};
 ghost use Rattle.pam_render.specs.text.Check.{rest_text, sentence, subject_text};
 ghost use Rattle.pam_render.specs.text.Check.{way_and_met, way_in_at, way_text, where_text};
 ghost use Rattle.pam_render.specs.parts.CheckNames.{names_view, word_of};
 
+use super::heading::put_heading;
 use super::met::{put_met, put_met_if_any};
 use crate::parts::{FoundProblem, Names, path_of, spot_of, text_at};
-use crate::sentences::{level_name, put_name, put_said};
+use crate::sentences::{put_name, put_said};
 use pam_codes::{Device, Out, Piece};
 use pam_conf::{Form, Kind, Stack};
 use pam_drawing::name_of;
 use pam_facts::known::name_of_path;
 use pam_findings::host::{Answered, Finding, Met, Place, Problem, WayIn};
 use pam_findings::misspelled::{Misspelled, Spot};
-use pam_report::{kind_name, path_at, problem_name, stack_of};
+use pam_report::{kind_name, path_at, stack_of};
 use std::io::Write;
 
 /// Writes `:LINE`, but nothing for a file as a whole.
@@ -288,6 +291,13 @@ fn put_sentence<W: Write>(
     put_rest(names, place.file, finding, out)
 }
 
+/// Writes `LEVEL: NUMBER NAME: `.
+fn put_problem_heading<W: Write>(problem: Problem, out: &mut Out<W>) -> Result<(), Device>
+    ensures { Writes W.contents out.old out.new result (heading_text (level_of problem) (row_of problem)) }
+{
+    put_heading(problem.level(), problem.row(), out)
+}
+
 /// Writes `PLACE: LEVEL: NUMBER NAME: SENTENCE`.
 #[tactic(auto, unfolding(crate::specs::text::Check::finding_line))]
 pub(super) fn put_finding<W: Write>(found: FoundProblem<'_>, out: &mut Out<W>) -> Result<(), Device>
@@ -298,12 +308,7 @@ pub(super) fn put_finding<W: Write>(found: FoundProblem<'_>, out: &mut Out<W>) -
     let place = &entry.0;
     let finding = entry.1;
     put_place(names, place, spot_of(word), out)?;
-    out.put_line(&[
-        Piece::Bytes(level_name(finding.problem.level()).as_bytes()),
-        Piece::Bytes(b": "),
-        Piece::Bytes(problem_name(finding.problem).as_bytes()),
-        Piece::Bytes(b": "),
-    ])?;
+    put_problem_heading(finding.problem, out)?;
     put_sentence(names, place, finding, word, out)?;
     out.put(b"\n")
 }

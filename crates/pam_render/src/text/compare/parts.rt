@@ -16,7 +16,8 @@ use crate::text::check::put_counted;
 use pam_changes::{AskedModule, StackPair};
 use pam_codes::{Device, Out, Piece};
 use pam_conf::{ConfError, Files, Stack};
-use pam_report::{conf_name, kind_name};
+use pam_findings::host::Problem;
+use pam_report::kind_name;
 use std::io::Write;
 
 /// A part of a line.
@@ -134,7 +135,12 @@ fn put_fault<W: Write>(
 ) -> Result<(), Device>
     ensures { Writes W.contents out.old out.new result (fault_text (side_files files.entry) fault.now) }
 {
-    out.put(conf_name(fault.kind).as_bytes())?;
+    let problem = Problem::Fault(fault.kind);
+    out.put_line(&[
+        Piece::Bytes(problem.number().as_bytes()),
+        Piece::Bytes(b" "),
+        Piece::Bytes(problem.name().as_bytes()),
+    ])?;
     put_place(file_of(files, fault), fault.line, out)
 }
 

@@ -8,4 +8,4 @@ pub returns : goal.returns
 returns g c =
     writes-is _ _ _ _ _ _ c.put_line.ensures
     (head-is (explanation_view c.args.explanation.now) _ _ _ _ c.as_bytes.ensures.value c.as_bytes-2.ensures.value
-    (c.as_bytes-3.ensures.value ∙ c.level_text.ensures) c.as_bytes-4.ensures.value)
+    (c.as_bytes-3.ensures.value ∙ c.level_name.ensures) c.as_bytes-4.ensures.value)

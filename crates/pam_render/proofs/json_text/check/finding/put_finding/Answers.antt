@@ -1,9 +1,9 @@
 use Rattle.std.proofs.Common.{◌∙◌, ℕ, List, [], Option, ap, codes, refl}
-use Rattle.std.specs.List.{after_first, before_first}
 use Rattle.std.specs.Option.{option_map}
 use Rattle.pam_codes.proofs.Writing.{writes-is}
 use Rattle.pam_conf.specs.declared.rule.Kind.{Kind}
-use Rattle.pam_findings.specs.declared.host.level.Level.{Level}
+use Rattle.pam_explain.specs.declared.explanation.Level.{Level}
+use Rattle.pam_explain.specs.Explanation.{Explanation}
 use Rattle.pam_findings.specs.declared.host.met.Met.{Met}
 use Rattle.pam_findings.specs.declared.misspelled.spot.Spot.{Spot}
 use Rattle.pam_render.proofs.JsonLinesProofs.Members.{named, then}
@@ -13,7 +13,7 @@ use Rattle.pam_render.specs.parts.CheckNames.{names_view}
 use Rattle.pam_render.specs.sentences.Sentences.{level_name}
 use Rattle.serde_json.specs.Data.{Data, number, string, unsigned}
 use Rattle.pam_render.specs.json_text.Check.{finding_json, line_if_any, met_unless, service_count, services_array, types_array}
-use Rattle.pam_render.specs.json_text.Header.{is_space, kind_name}
+use Rattle.pam_render.specs.json_text.Header.{kind_name}
 use Rattle.pam_render.proofs.json_text.check.finding.put_finding.Goals as goal
 
 pub returns : goal.returns
@@ -21,7 +21,7 @@ unfolding finding_json
 returns g c =
     let services = (names_view c.args.found.names.now).services in
     let service = c.service_of-service.ensures in
-    let name = c.problem_name-name.ensures in
+    let row = c.row-row.ensures in
     let met = c.met_unless-met.ensures ∙ ap (λ (s : Option ℕ). met_unless c.args.found.entry.now.1.met s) service in
     let level = c.as_bytes.ensures.value ∙ c.level_name.ensures ∙ ap (λ (l : Level). level_name l) c.level.ensures in
     let of-service = c.name_of_service.ensures ∙ ap (λ (s : Option ℕ). option_map (text_at services) s) service in
@@ -43,10 +43,10 @@ returns g c =
     (then _ _ _ _ (c.text-2.ensures ∙ ap (λ (text : List ℕ). named (codes "level") (string text)) level)
     (then _ _ _ _
     (c.text-3.ensures
-    ∙ ap (λ (text : List ℕ). named (codes "number") (string text)) (c.as_bytes-2.ensures.value ∙ c.number_in.ensures ∙ ap (before_first is_space) name))
+    ∙ ap (λ (text : List ℕ). named (codes "number") (string text)) (c.as_bytes-2.ensures.value ∙ ap (λ (e : Explanation). e.number) row))
     (then _ _ _ _
     (c.text-4.ensures
-    ∙ ap (λ (text : List ℕ). named (codes "name") (string text)) (c.as_bytes-3.ensures.value ∙ c.name_in.ensures ∙ ap (after_first is_space) name))
+    ∙ ap (λ (text : List ℕ). named (codes "name") (string text)) (c.as_bytes-3.ensures.value ∙ ap (λ (e : Explanation). e.name) row))
     (then _ _ _ _ c.written.ensures
     (then _ _ _ _ (c.readable_if_any.ensures ∙ ap (λ (text : Option (List ℕ)). named (codes "service") (readable_or_null text)) of-service)
     (then _ _ _ _ (c.readable_if_any-2.ensures ∙ ap (λ (text : Option (List ℕ)). named (codes "type") (readable_or_null text)) type)

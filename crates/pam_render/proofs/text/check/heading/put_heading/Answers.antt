@@ -1,0 +1,11 @@
+use Rattle.std.proofs.Common.{◌∙◌}
+use Rattle.pam_codes.proofs.Writing.{writes-is}
+use Rattle.pam_explain.specs.Views.{explanation_view}
+use Rattle.pam_render.proofs.TextProofs.CheckTexts.{heading-is}
+use Rattle.pam_render.proofs.text.check.heading.put_heading.Goals as goal
+
+pub returns : goal.returns
+returns g c =
+    writes-is _ _ _ _ _ _ c.put_line.ensures
+    (heading-is c.args.level (explanation_view c.args.row.now) _ _ _ (c.as_bytes.ensures.value ∙ c.level_name.ensures) c.as_bytes-2.ensures.value
+    c.as_bytes-3.ensures.value)
