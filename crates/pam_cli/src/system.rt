@@ -104,7 +104,7 @@ impl<'a> Place<'a> {
     }
 
     /// The path that is shown.
-    pub(crate) fn shown(self, alloc: Global) -> Result<PathBuf, AllocError>
+    pub fn shown(self, alloc: Global) -> Result<PathBuf, AllocError>
         ensures { IfOk result (λ path. path_buf_bytes path ≡ shown (place_view self.entry)) }
     {
         match self {

@@ -1,0 +1,7 @@
+mod Appended
+mod Codes
+mod Firsts
+mod Held
+mod Items
+mod Lines
+mod Lists

@@ -1,0 +1,15 @@
+pub mod Checks
+pub mod Documents
+pub mod Findings
+pub mod Frames
+pub mod Laws
+pub mod Messages
+pub mod Overlay
+pub mod Places
+pub mod Positions
+pub mod Publications
+pub mod Publishing
+pub mod Replies
+pub mod Sessions
+pub mod States
+pub mod inner

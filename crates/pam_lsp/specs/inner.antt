@@ -1,0 +1,2 @@
+-- What no public contract cites.
+pub mod Written
