@@ -86,7 +86,7 @@ OUTCOMES = ["outcomes", "login", "auth"]
 GRAPH = ["graph", "login", "auth"]
 MERMAID = [*GRAPH, "--format", "mermaid"]
 FORMATS = [b"dot", b"mermaid", b"svg"]
-FORMS = [b"short", b"full", b"json", b"sarif"]
+FORMS = [b"short", b"full", b"json", b"sarif", b"patch"]
 # Words of `paths`, and too few words for what they begin with, and too many.
 OTHER_WORDS = [["--limit", "3"], ["--after", "0"], ["--before", "0"], ["more"], ["--access", "access"], ["--returns"],
                ["--time", "time", "--user", "alice"], ["--zone", "UTC0"], ["--at-unix", "x"], ["--conf", "pam.conf"]]

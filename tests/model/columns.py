@@ -8,6 +8,8 @@ from model.faults import LineFault
 STEP = re.compile(rb"(?P<comment>#[^\n]*)|(?P<joint>\\(?:#[^\n]*)?\n)|(?P<end>\n)|(?P<byte>[^\n])", re.DOTALL)
 WORD = re.compile(rb"\[.*?(?<!\\)\]|[^ \t\r\[][^ \t\r]*", re.DOTALL)
 TOKEN = re.compile(rb"=|[^ \t\r=]+")
+# All of a line up to a bracket that stays open.
+CLOSED = re.compile(rb"(?:[ \t\r]|%s)*" % WORD.pattern, re.DOTALL)
 TARGETS = ["E10", "E11", "E12", "E15", "E18", "L10"]
 PATHS = ["S3", "S5", "S13", "S14", "S25", "S26"]
 
@@ -38,6 +40,9 @@ def word_number(form, number, position, words):
 
 def piece(form, number, position, line):
     """The start of the word, or of the name or action in brackets, that a finding is about in a line, and its bytes; or `None`."""
+    if number == "E8":
+        start = CLOSED.match(line).end()
+        return start, line[start:]
     try:
         words = stacks.words_of(line)
     except LineFault:
@@ -58,7 +63,7 @@ def piece(form, number, position, line):
 
 def spot(form, data, line, number, position):
     """The line, the column and the length of the word that a finding of a line is about, or `None`."""
-    if position is None and number not in spelling.WRONG and number not in TARGETS + PATHS or not line:
+    if position is None and number not in spelling.WRONG and number not in ["E8"] + TARGETS + PATHS or not line:
         return None
     text = list(text_from(data, line))
     found = piece(form, number, position, b"".join(byte for byte, _ in text))

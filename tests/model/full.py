@@ -6,6 +6,8 @@ from model import spelling
 MOST_BYTES = 1_048_576
 # The columns of a line, of what stands before the word in a longer one, and of the points on both sides.
 COLUMNS, BEFORE, POINTS = 72, 20, 4
+# The bytes of a name that are looked at.
+MOST_OF_NAME = 292
 UNSEEN = re.compile(rb"%s|[\x00-\x1f\x7f]" % spelling.UNSEEN)
 
 
@@ -69,7 +71,33 @@ def excerpt(number, line, column, length):
     return b"".join(text) + b"\n"
 
 
-def below(host, file, line, word):
+def name_cell(name):
+    """What is shown of a name, and the columns of it."""
+    pieces = cells(name[:MOST_OF_NAME])
+    return b"".join(piece for piece, _ in fitting(pieces, COLUMNS)), min(COLUMNS, width(pieces))
+
+
+def number_cell(number):
+    return b"%d" % number, len(b"%d" % number)
+
+
+def table(paths, rows):
+    """The modules of a way in, each with its number, the place of its rule, its name and its answer."""
+    lines = []
+    for file, line, number, name, code in rows:
+        (path, path_columns), (at, at_columns) = name_cell(paths[file]), number_cell(line)
+        lines.append([number_cell(number), (path + b":" + at, path_columns + 1 + at_columns), name_cell(name), (code, 0)])
+    widest = [max(columns for _, columns in column) for column in zip(*lines)]
+    padded = [[text + b" " * (most - columns) for (text, columns), most in zip(line, widest)] for line in lines]
+    return b"".join(b"  %s\n" % b"  ".join(line) for line in padded) + b"\n" * bool(rows)
+
+
+def below(host, paths, file, line, word, rows):
+    """What stands below a finding: the line of its file, or the modules of the way in of S2."""
+    return excerpt_below(host, file, line, word) + table(paths, rows)
+
+
+def excerpt_below(host, file, line, word):
     """What stands below a finding at a line of a file, which is about a word with its line, its column and its length, or about none."""
     if file is None or not line or file in host.outside or b"\0" in host.data[file] or len(host.data[file]) > MOST_BYTES:
         return b""

@@ -7,7 +7,7 @@ words that it does not take is its own, so standard error is `None` then. Help a
 import re
 from itertools import islice
 
-from model import arguments, compare, full, graph, json_lines, needs, policies, policy_text, readings, said, sarif, services, sources, stacks, tables
+from model import arguments, compare, full, graph, json_lines, needs, patch, policies, policy_text, readings, said, sarif, services, sources, stacks, tables
 from model import zones
 from model import given as plain_given
 from model import host as plain_host
@@ -44,7 +44,7 @@ WITH_SOURCE = [name for name, options in OPTIONS.items() if options.startswith(S
 ABOUT = (b"facts", b"version")
 VERSION = "1.0.0 (proved with rattle, logic dac8208d650f15bf)"
 # The forms of a check.
-FORMS = (b"short", b"full", b"json", b"sarif")
+FORMS = (b"short", b"full", b"json", b"sarif", b"patch")
 REQUIRED = {b"access": [b"--access", b"--user"], b"time": [b"--time", b"--user"]}
 MOST_ARGUMENTS = {b"compare": 4, b"facts": 0, b"version": 0, b"show": 2, b"paths": 2, b"outcomes": 2, b"graph": 2, b"needs": 2, b"time": 1}
 LEAST_ARGUMENTS = {b"check": 0, b"compare": 2, b"facts": 0, b"version": 0, b"show": 1, b"decide": 2, b"paths": 2, b"outcomes": 2, b"graph": 2,
@@ -321,6 +321,8 @@ class Request:
             return b"".join(json_lines.check(host, source.paths, accept, given)), status
         if self.form == b"sarif":
             return sarif.check(VERSION, host, source.paths, accept, given), status
+        if self.form == b"patch":
+            return patch.check(host, source.paths, accept, given), status
         if self.form == b"full":
             return plain_host.text(host, source.paths, accept, given, full.below), status
         return plain_host.text(host, source.paths, accept, given), status
