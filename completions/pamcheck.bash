@@ -1,7 +1,7 @@
 # Completion of pamcheck for bash, by the package bash-completion. It never runs pamcheck itself, whose launcher may compile.
 
 # Made by completions/make, up to the next mark: do not edit.
-_pamcheck_commands='check compare policy show decide paths outcomes graph needs access time explain facts version help'
+_pamcheck_commands='check compare policy show decide paths outcomes graph needs access time explain facts version lsp help'
 _pamcheck_codes='success open_err symbol_err service_err system_err buf_err perm_denied auth_err cred_insufficient
     authinfo_unavail user_unknown maxtries new_authtok_reqd acct_expired session_err cred_unavail
     cred_expired cred_err no_module_data conv_err authtok_err authtok_recover_err authtok_lock_busy
@@ -45,7 +45,7 @@ _pamcheck_takes() {
         *:--conf | *:--access | *:--time | *:--group | *:--facts | *:--accept | *:--returns | *:--passwd) takes=file ;;
         *:--with) takes=candidate ;;
         *:--fail-on) takes='error warning note' ;;
-        check:--format) takes='short full json sarif' ;;
+        check:--format) takes='short full json sarif patch' ;;
         *:--set) takes=setting ;;
         *:--user) takes=user ;;
         *:--rhost) takes=host ;;

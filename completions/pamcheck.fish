@@ -115,7 +115,7 @@ complete -c pamcheck -n __pamcheck_no_command -s V -l version -d 'Print version'
 complete -c pamcheck -n '__pamcheck_at 1 1 help' -a '$__pamcheck_commands'
 
 # Made by completions/make, up to the next mark: do not edit.
-set -g __pamcheck_commands check compare policy show decide paths outcomes graph needs access time explain facts version help
+set -g __pamcheck_commands check compare policy show decide paths outcomes graph needs access time explain facts version lsp help
 set -g __pamcheck_codes success open_err symbol_err service_err system_err buf_err perm_denied auth_err cred_insufficient \
     authinfo_unavail user_unknown maxtries new_authtok_reqd acct_expired session_err cred_unavail \
     cred_expired cred_err no_module_data conv_err authtok_err authtok_recover_err authtok_lock_busy \
@@ -148,6 +148,8 @@ complete -c pamcheck -n '__pamcheck_no_command' -a explain \
     -d 'Explains a fault or finding, and how to mend it'
 complete -c pamcheck -n '__pamcheck_no_command' -a facts -d 'Lists what is known of modules'
 complete -c pamcheck -n '__pamcheck_no_command' -a version -d 'Shows the version of the program'
+complete -c pamcheck -n '__pamcheck_no_command' -a lsp \
+    -d 'Answers an editor over standard input and output'
 complete -c pamcheck -n '__pamcheck_no_command' -a help -d 'Prints the help of a command'
 
 # The words that are no options, by their places from 1.
@@ -191,8 +193,8 @@ complete -c pamcheck -n '__pamcheck_in check' -l accept -r -F \
     -d 'The findings that are meant to be, a line for each, as S2 SERVICE auth'
 complete -c pamcheck -n '__pamcheck_in check policy' -l fail-on -x -a 'error warning note' \
     -d 'error, warning or note: the least level that fails; warning if left out'
-complete -c pamcheck -n '__pamcheck_in check' -l format -x -a 'short full json sarif' \
-    -d 'short (for people), full (with the lines of files), json (as --json) or sarif (for code scanning); short if left out'
+complete -c pamcheck -n '__pamcheck_in check' -l format -x -a 'short full json sarif patch' \
+    -d 'short (for people), full (with the lines of files), json (as --json), sarif (for code scanning) or patch (a diff that mends); short if left out'
 complete -c pamcheck -n '__pamcheck_in check compare policy show decide paths outcomes needs access time' -l json \
     -d 'Answer in JSON Lines'
 complete -c pamcheck -n '__pamcheck_in compare' -l conf -d 'OLD and NEW are files for all services'

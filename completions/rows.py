@@ -135,7 +135,7 @@ def numbers(sources):
     for family in re.findall(r"(?m)^ +\d+ => of_(\w+)\(row\),$", sources.read(folder + "table.rt")):
         path = folder + family + ".rt"
         text = sources.read(path)
-        of_constant = dict(re.findall(r'(?m)^const (\w+): Explanation = Explanation \{\n    number: "(\w+)",$', text))
+        of_constant = dict(re.findall(r'(?m)^pub const (\w+): Explanation = Explanation \{\n    number: "(\w+)",$', text))
         listed = re.findall(r"(?m)^ +\d+ => &(\w+),$", text)
         of += [sources.look_up(of_constant, constant, path, "number of") for constant in listed]
     if not of:
